@@ -1,0 +1,16 @@
+pub mod Awaited
+pub mod Built
+pub mod Calling
+pub mod Every
+pub mod Gathering
+pub mod Growing
+pub mod Grows
+pub mod Law
+pub mod Listing
+pub mod Misfits
+pub mod Passing
+pub mod Polish
+pub mod Scopes
+pub mod Settling
+pub mod Texts
+pub mod Walks
