@@ -1,0 +1,4 @@
+pub mod Places
+pub mod Counts
+pub mod Writes
+pub mod Orders

@@ -1,0 +1,9 @@
+pub mod Moving
+pub mod Joining
+pub mod Told
+pub mod Copying
+pub mod Blanks
+pub mod Telling
+pub mod Saying
+pub mod Banks
+pub mod Naming
