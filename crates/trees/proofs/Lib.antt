@@ -1,0 +1,9 @@
+pub mod Meeting
+pub mod Joining
+pub mod Grounding
+pub mod Writing
+pub mod Narrowing
+pub mod Blanks
+pub mod Showing
+pub mod Preparing
+pub mod Telling

@@ -1,0 +1,11 @@
+pub mod Kind
+pub mod Stores
+pub mod Values
+pub mod Texts
+pub mod Meaning
+pub mod Says
+pub mod Joins
+pub mod Marks
+pub mod Tasks
+pub mod Reading
+pub mod laws
