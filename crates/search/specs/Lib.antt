@@ -1,0 +1,9 @@
+pub mod Frames
+pub mod Books
+pub mod Trees
+pub mod Lines
+pub mod Refusals
+pub mod Steps
+pub mod Calls
+pub mod History
+pub mod Promise
