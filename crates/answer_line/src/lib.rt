@@ -1,4 +1,6 @@
 // The line of an answer: the texts of its variables, parted by commas, within 1,024 bytes.
+#![tactic(auto)]
+
 ghost use Rattle.std.specs.Prelude.{◌≡◌, ◌<◌, ◌≤◌, true, ◌++◌, length, drop, replicate};
 ghost use Rattle.answer_line.specs.Lines.{line_of, PutsComma, PutsText, PutsField, WritesLine, FieldsTell};
 

@@ -1,4 +1,6 @@
 // Runs rule 0 of a book over any bank, and prints its answers as they come.
+#![tactic(auto)]
+
 ghost use Rattle.search.specs.Calls.{Good};
 
 use anyhow::anyhow;

@@ -1,4 +1,6 @@
 // Runs rule 0 of the book on standard input over a bank of semitones.
+#![tactic(auto)]
+
 use arrange::{RECORDS, arrange};
 use records::Slot;
 use semitones::{Cell, Record, Semitones};

@@ -1,4 +1,6 @@
 // Runs rule 0 of the book on standard input over a bank of trees.
+#![tactic(auto)]
+
 use arrange::{RECORDS, arrange};
 use records::Slot;
 use trees::{Store, Trees};

@@ -1,4 +1,6 @@
 // The interface of a bank of stores: what each bank means, what its calls do, and the laws that it shows.
+#![tactic(auto)]
+
 ghost use Rattle.std.specs.Prelude.{◌≡◌};
 ghost use Rattle.bank.specs.Calls.{Opens, Forks, Tells, Releases, Prints};
 ghost use Rattle.bank.specs.Conditions.{condition};

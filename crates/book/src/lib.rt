@@ -1,4 +1,6 @@
 // A rule book as a table of goals. Every value of `Book` is well formed, so its parts and calls are followed with no check.
+#![tactic(auto)]
+
 ghost use Rattle.std.specs.Prelude.{◌≡◌, ◌+◌, ◌≤◌, true, [], length, take};
 ghost use Rattle.book.specs.Table.{nested, heads_of, calls_fit, rooted};
 

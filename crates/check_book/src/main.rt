@@ -1,4 +1,6 @@
 // Reads a rule book from standard input and says what it is, or what is wrong with it and where.
+#![tactic(auto)]
+
 use book::{Book, Cause, Refusal};
 use std::io::Read;
 

@@ -1,4 +1,6 @@
 // The lines and fields of a rule book, as parts of its text.
+#![tactic(auto)]
+
 ghost use Rattle.std.specs.Prelude.{◌≡◌, ◌+◌, ◌<◌, ◌≤◌, true, false, length};
 
 pub mod cursor;

@@ -1,4 +1,6 @@
 // The frontier of what is still to be solved, over any bank: the tree of goals, and one step of it.
+#![tactic(auto)]
+
 mod frame;
 mod steps;
 mod stop;

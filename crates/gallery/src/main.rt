@@ -1,4 +1,6 @@
 // Runs each book of the folder that it is started in, over the bank that the book is for, and prints what the arranger of that bank prints.
+#![tactic(auto)]
+
 use arrange::{RECORDS, arrange_text};
 use records::Slot;
 use semitones::{Cell, Record, Semitones};

@@ -1,4 +1,6 @@
 // Drives the bank of trees through a scenario, and prints every answer and refusal.
+#![tactic(auto)]
+
 mod told;
 
 use bank::{Bank, Constraint, Effect, Refusal, Vars};

@@ -1,4 +1,6 @@
 // One line of a rule book: what it says, or what is wrong with it.
+#![tactic(auto)]
+
 pub mod read;
 pub mod words;
 

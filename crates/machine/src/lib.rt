@@ -1,4 +1,6 @@
 // An interleaving machine of the miniKanren family, as mathematics: each theorem is a clause of a function that does nothing.
+#![tactic(auto)]
+
 ghost use Rattle.machine.specs.Theorems.{OwnRulesFit, Deterministic, Complete, Sound, Dated, GoesOn};
 ghost use Rattle.machine.specs.Faulty.{SameOtherwise};
 ghost use Rattle.machine.specs.Refutations.{LateTurnFails, RestFirstFails};

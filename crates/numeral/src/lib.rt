@@ -1,4 +1,6 @@
 // Decimal numbers as a rule book writes them: no plus, no leading zero.
+#![tactic(auto)]
+
 ghost use Rattle.std.specs.Prelude.{◌≡◌, ◌≤◌};
 ghost use Rattle.numeral.specs.Reads.{as_number, as_signed, Reads, ReadsSigned};
 ghost use Rattle.numeral.specs.Steps.{leads as led, appended as appends, negated};

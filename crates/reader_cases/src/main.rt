@@ -1,4 +1,6 @@
 // Reads many texts, good and bad, and prints what the reader answers to each.
+#![tactic(auto)]
+
 mod large;
 mod small;
 

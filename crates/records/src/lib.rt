@@ -1,4 +1,6 @@
 // What every bank over lent records shares: the slots that hold its stores, and the line of idle ones.
+#![tactic(auto)]
+
 mod slots;
 
 ghost use Rattle.std.specs.Prelude.{◌≡◌, ℕ, ◌<◌, ◌≤◌, false, length};

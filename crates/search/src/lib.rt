@@ -1,4 +1,6 @@
 // A search for the answers of a rule, over any bank of stores. It interleaves: every answer that there is comes after so many steps.
+#![tactic(auto)]
+
 pub use answer_line::Overlong;
 use bank::Bank;
 use book::Book;

@@ -1,4 +1,6 @@
 // A bank of stores over the whole numbers: which variables lie at which distance from each other, and which are numbers.
+#![tactic(auto)]
+
 mod cells;
 mod classes;
 mod edges;

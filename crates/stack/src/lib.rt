@@ -1,4 +1,6 @@
 // One stack over lent slots, written once for every kind of element that is copied.
+#![tactic(auto)]
+
 ghost use Rattle.std.specs.Prelude.{◌≤◌, length};
 
 pub mod ends;

@@ -1,5 +1,7 @@
 // Writes texts into a lent part, one piece after another. A piece is added up to where the last one ended, and once there was no room
 // nothing more is written: so a chain of calls needs no check between them.
+#![tactic(auto)]
+
 ghost use Rattle.std.specs.Prelude.{◌≡◌, ◌+◌, ◌%◌, ◌<◌, [], ◌∷◌, length, replicate, decimal as digits, nat_lt, slice_set};
 ghost use Rattle.std.specs.Fmt.{signed_decimal};
 ghost use Rattle.texts.specs.Pieces.{Adds, Joins};

@@ -1,4 +1,6 @@
 // A bank of stores over trees: a variable is a whole number or a pair of values.
+#![tactic(auto)]
+
 mod cells;
 mod classes;
 mod joins;

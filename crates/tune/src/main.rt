@@ -1,4 +1,6 @@
 // Tells a bank some intervals, and prints what it answers to each call, a refusal by its number.
+#![tactic(auto)]
+
 mod calls;
 
 use bank::{Bank, Constraint, Vars};

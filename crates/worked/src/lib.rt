@@ -1,4 +1,6 @@
 // Worked examples: a table of small books, texts and tells with what becomes of each, every row of it proved.
+#![tactic(auto)]
+
 ghost use Rattle.book.specs.Language.{Each};
 ghost use Rattle.worked.specs.Rows.{Holds};
 ghost use Rattle.worked.specs.Table.{table};
