@@ -25,7 +25,7 @@ fn print_refused(rt: &HostRuntime, number: u8) -> anyhow::Result<()> {
 
 // The step of an answer, a comma and its line.
 fn print_answer(rt: &HostRuntime, step: u32, line: &[u8]) -> anyhow::Result<()> {
-    print!(rt, "{step},")?;
+    print!(rt; "{step},")?;
     rt.stdout().write_all(line)?;
     println!(rt; "")?;
     Ok(())

@@ -33,10 +33,10 @@ pub fn print_told(rt: &impl Print, store: u16, c: &Constraint) -> anyhow::Result
     let code = c.code;
     let k = c.k;
     match c.vars {
-        Vars::Zero => print!(rt, "{store}: tell,{code},{k}")?,
-        Vars::One(x) => print!(rt, "{store}: tell,{code},{k},{x}")?,
-        Vars::Two(x, y) => print!(rt, "{store}: tell,{code},{k},{x},{y}")?,
-        Vars::Three(x, y, z) => print!(rt, "{store}: tell,{code},{k},{x},{y},{z}")?,
+        Vars::Zero => print!(rt; "{store}: tell,{code},{k}")?,
+        Vars::One(x) => print!(rt; "{store}: tell,{code},{k},{x}")?,
+        Vars::Two(x, y) => print!(rt; "{store}: tell,{code},{k},{x},{y}")?,
+        Vars::Three(x, y, z) => print!(rt; "{store}: tell,{code},{k},{x},{y},{z}")?,
     }
     Ok(())
 }

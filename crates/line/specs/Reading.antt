@@ -10,7 +10,7 @@
 --   unless       what was read, or a fault if there is nothing
 --   number_of    a field as a number up to max
 --   signed_of    a field as a number with a sign, of a size up to max
---   first_word   the first of some fields as a word, and so first-number and first_signed
+--   first_word   the first of some fields as a word, and so first_number and first_signed
 --   as_slots     some fields as slots, behind those that are done
 --   and_then     an outcome from what was read before, unless that was wrong
 --   ruled        the fields behind the word `rule`, and so called and told

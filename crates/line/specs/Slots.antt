@@ -2,7 +2,7 @@
 --
 --   slots_of    the slots in use, in order
 --   says        what a line says
---   sized       the slots in use are among the places, and so slots-sized
+--   sized       the slots in use are among the places, and so slots_sized
 use Rattle.std.specs.Prelude.{ℕ, Bool, true, List, length, take, nat_le}
 use Rattle.line.specs.declared.Slots.{Slots}
 use Rattle.line.specs.declared.Line.{Line}

@@ -1,4 +1,4 @@
--- Facts of lists and frames, the parts of the theorems, and the refutations.
+-- Facts of lists and frames, the parts of the theorems, and the examples.
 pub mod Lists
 pub mod Rules
 pub mod Determinism
@@ -12,4 +12,5 @@ pub mod Posed
 pub mod Soundness
 pub mod Completeness
 pub mod Progress
+pub mod Worked
 pub mod Refutations

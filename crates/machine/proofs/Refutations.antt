@@ -1,11 +1,12 @@
 -- The faulty machines: one never answers, the other answers at other steps. Assumes nothing.
-use Rattle.std.proofs.Common.{◌≡◌, ℕ, zero, suc, true, false, List, [], ◌∷◌, map, pos, is_some, Some, None, Option, refl}
-use Rattle.bank.specs.Kinds.{number, Kind, Condition, Assignment, all_admitted}
+use Rattle.std.proofs.Common.{◌≡◌, ℕ, zero, suc, List, [], ◌∷◌, Some, None, Option, refl}
+use Rattle.bank.specs.Kinds.{Kind, Condition, all_admitted}
 use Rattle.book.specs.Language.{Rules, call, rule_at}
 use Rattle.machine.specs.Machine.{Side, Frame, Answer, Tree, leaf, branch, State, turn, taken_up, Step, Entry, noted, Runs, begin, next}
 use Rattle.machine.specs.Machine.{step_tell_lem, step_fail, step_conj, step_disj, step_fresh, step_call, step_branch, step_chain}
 use Rattle.machine.specs.Faulty.{StepWith, at_leaf, at_branch, at_chain, late_turn_lem, LateTurn, SameOtherwise}
-use Rattle.machine.specs.Refutations.{plain, again, both_ways, After, LateTurnFails, RestFirstFails}
+use Rattle.machine.specs.Examples.{plain, again, both_ways, LateTurnFails, RestFirstFails}
+use Rattle.machine.proofs.Worked.{all, shown, again_once, both_ways_runs}
 
 module _ {K : Kind} {rules : Rules} where
   true_there : {T : Tree} {o : Option Answer} {S : State} → Step K rules T o S → StepWith K rules (λ o. turn) taken_up T o S
@@ -25,28 +26,6 @@ module _ {K : Kind} {rules : Rules} where
 
 pub same_otherwise : SameOtherwise
 same_otherwise = record { there = λ K rules T o S st. true_there st; back = λ K rules T o S st. true_back st }
-
--- Every variable is the number k.
-abbrev all : ℕ → Assignment
-all k v = number (pos k)
-
--- what a run shows
-shown :
-    {step : Tree → Option Answer → State → Type 0} (rules : Rules) {t : ℕ} {S : State} {es : List Entry}
-    → Runs step (rule_at rules 0) t S es → After step rules t (map (λ e. e.step) es) (is_some S)
-shown rules r = record { state = _; answers = _; run = r; at = refl; left = refl }
-
-both_ways_runs : After (Step plain both_ways) both_ways 6 (4 ∷ 6 ∷ []) false
-unfolding all_admitted
-both_ways_runs =
-    let split = next (next begin step_conj) (step_chain step_disj) in
-    let first = next (next split (step_chain (step_branch (step_tell_lem (all 60) refl)))) (step_branch (step_tell_lem (all 60) refl)) in
-    shown both_ways (next (next first (step_chain (step_tell_lem (all 67) refl))) (step_tell_lem (all 67) refl))
-
-again_once : After (Step plain again) again 3 (3 ∷ []) true
-unfolding all_admitted
-again_once =
-    shown again (next (next (next begin step_disj) (step_branch step_call)) (step_branch (step_tell_lem (all 5) refl)))
 
 -- The first leaf of the tree has the rule's goal, or calls the rule.
 data Stuck : Tree → Type 0 where

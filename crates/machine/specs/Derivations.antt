@@ -3,7 +3,7 @@
 --   values_of       the values of some slots
 --   Deriv           a derivation of a goal under values of its slots
 --   conj_weight     what an `and` weighs whose goals weigh d and e
---   weight          what a derivation weighs: no fewer steps than the machine takes to answer it
+--   weight          what a derivation weighs: no fewer steps than the search takes to answer it
 --   choices         the sides that it takes, in order
 --   AllAdmitted     each value is one of the kind
 --   Posable         the values are some for the rule's parameters

@@ -6,7 +6,7 @@
 --   rest_first_lem      the rest goes before the leaf that takes up an answer
 --   LateTurn        the true step but for late-turn
 --   RestFirst       the true step but for rest-first
---   SameOtherwise   with the true turn and the true taken-up it is the true step
+--   SameOtherwise   with the true turn and the true taken_up it is the true step
 use Rattle.std.specs.Prelude.{ℕ, List, Some, None, Option}
 use Rattle.bank.specs.Kinds.{Condition, Kind}
 use Rattle.book.specs.Language.{Goal, Rules}

@@ -1,6 +1,6 @@
--- The machine, derivations, what is shown of them, and two faulty machines with their refutations.
+-- The machine, derivations, what is shown of them, and two faulty machines with examples.
 pub mod Machine
 pub mod Derivations
 pub mod Theorems
 pub mod Faulty
-pub mod Refutations
+pub mod Examples

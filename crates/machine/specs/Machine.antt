@@ -1,4 +1,4 @@
--- The machine that looks for answers: its states, one step, and a run. Assumes nothing.
+-- The machine that searches: its states, one step, and a run. Assumes nothing.
 --
 --   Side        which goal of an `or` was taken
 --   Frame       the variable of each slot in scope
@@ -12,7 +12,7 @@
 --   taken_up    what remains of a chain when its tree has stepped
 --   Step        one step: the tree, the answer if there is one, and what is left
 --   upto        the variables 0 to p - 1
---   posed       the tree from which the run for a rule's answers begins
+--   posed       the tree from which the search for a rule's answers begins
 --   Entry       an answer, and the number of the step that gave it
 --   noted       the answers, with that of step t if it gave one
 --   Runs        so many steps of some machine from a posed rule, what is left, and the answers

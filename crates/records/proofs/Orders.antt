@@ -1,5 +1,5 @@
 -- What a bank keeps of its slots, as one is written. Assumes nothing.
-use Rattle.std.proofs.Common.{◌≡◌, ℕ, ◌+◌, ◌-◌, ◌<◌, ◌≤◌, true, false, List, length, get_or, set, sym, refl, ◌∙◌, arith, length-set}
+use Rattle.std.proofs.Common.{◌≡◌, ℕ, ◌+◌, ◌-◌, ◌<◌, ◌≤◌, true, false, List, length, get_or, set, count_by, sym, refl, ◌∙◌, arith, length-set}
 use Rattle.std.proofs.lemmas.List.Sums.{count_by-le-length}
 use Rattle.std.proofs.lemmas.Bool.{false≢true}
 use Rattle.records.specs.declared.slots.Slot.{Slot}
@@ -10,6 +10,7 @@ use Rattle.records.proofs.Lines.{line_of, head_within, head_free, line_begun, li
 -- at most 1,024 slots, the idle ones in line from `head` on, and every store's record has a property
 pub record Orderly {R : Type 0} (P : R → Type 0) (slots : List (Slot R)) (head spare : ℕ) : Type 0 where
   pub small : length slots ≤ 1024
+  pub counted : spare ≡ count_by idle slots
   pub linked : Linked slots head spare
   pub kept : Keeps P slots
 
@@ -26,13 +27,14 @@ module _ {R : Type 0} (P : R → Type 0) (slots : List (Slot R)) (head spare : �
 
   -- there is room for one more in 16 bits
   pub few_spare : spare ≤ 1024
-  few_spare = omega (arith, O.small, line.counted, count_by-le-length idle slots)
+  few_spare = omega (arith, O.small, O.counted, count_by-le-length idle slots)
 
   pub orderly_begun : (r : R) (past : Slot R) → 0 < spare → P r → Orderly P (set slots head (begun (holding r (get_or slots head past)))) (next_at slots head) (spare - 1)
   orderly_begun r past p has =
       let y = begun (holding r (get_or slots head past)) in
       record {
         small = omega (arith, length-set slots head y, O.small);
+        counted = (line_begun slots head spare line p y (sym (next_is slots head past (first_within p))) refl).counted;
         linked = ∣ line_begun slots head spare line p y (sym (next_is slots head past (first_within p))) refl ∣₁;
         kept = keeps_set slots head y P O.kept (λ e. has);
       }
@@ -42,6 +44,7 @@ module _ {R : Type 0} (P : R → Type 0) (slots : List (Slot R)) (head spare : �
       let y = ended head (get_or slots s past) in
       record {
         small = omega (arith, length-set slots s y, O.small);
+        counted = (line_ended slots head spare line s was y refl refl).counted;
         linked = ∣ line_ended slots head spare line s was y refl refl ∣₁;
         kept = keeps_set slots s y P O.kept (λ e. absurd (false≢true e));
       }
@@ -52,6 +55,7 @@ module _ {R : Type 0} (P : R → Type 0) (slots : List (Slot R)) (head spare : �
       let live = live_is slots s past l in
       record {
         small = omega (arith, length-set slots s y, O.small);
+        counted = (line_same slots head spare line s y l (sym live) (sym (next_is slots s past l))).counted;
         linked = ∣ line_same slots head spare line s y l (sym live) (sym (next_is slots s past l)) ∣₁;
         kept = keeps_set slots s y P O.kept (λ e. has (live ∙ e));
       }

@@ -3,8 +3,8 @@
 
 mod slots;
 
-ghost use Rattle.std.specs.Prelude.{◌≡◌, ℕ, ◌<◌, ◌≤◌, false, length};
-ghost use Rattle.records.specs.Slots.{live_at, next_at, Linked, SameRecords, Written, begun, ended};
+ghost use Rattle.std.specs.Prelude.{◌≡◌, ℕ, ◌<◌, ◌≤◌, false, length, count_by, MatchOption};
+ghost use Rattle.records.specs.Slots.{idle, live_at, next_at, Linked, SameRecords, Written, begun, ended};
 
 pub use slots::Slot;
 
@@ -13,6 +13,7 @@ pub fn idle_all<R: Copy>(slots: &mut [Slot<R>]) -> u16
     requires { length slots.old ≤ 1024 }
     ensures all { result ≡ length slots.old }
     ensures none { (i : ℕ) → live_at slots.new i ≡ false }
+    ensures counted { result ≡ count_by idle slots.new }
     ensures linked { Linked slots.new 0 result }
     ensures same { SameRecords slots.old slots.new }
 {
@@ -22,6 +23,19 @@ pub fn idle_all<R: Copy>(slots: &mut [Slot<R>]) -> u16
         slots[i].end(spare);
     }
     spare
+}
+
+// The first slot with no store, or none exactly if there is none. It walks over the slots: a bank takes the one that is first in line.
+pub fn first_idle<R: Copy>(slots: &[Slot<R>]) -> Option<u16>
+    requires { length slots.now ≤ 1024 }
+    ensures { MatchOption result (count_by idle slots.now ≡ 0) (λ i. (i < length slots.now) × (live_at slots.now i ≡ false)) }
+{
+    for i in 0..slots.len() {
+        if !slots[i].live {
+            return Some(i as u16);
+        }
+    }
+    None
 }
 
 // Begins a store in the idle slot that is first in line, and answers which is first then.

@@ -23,7 +23,7 @@ abbrev pub Kept : Record → Type 0
 Kept r = ∥ Sound r ∥₁
 
 pub orderly : (b : Semitones) → Orderly Kept b.slots.now b.head b.spare
-orderly b = record { small = b.small; linked = b.linked; kept = b.kept }
+orderly b = record { small = b.small; counted = b.counted; linked = b.linked; kept = b.kept }
 
 -- what was found of a bank holds of it, once it is taken out of its place
 pub since : (P : Semitones → Type 0) (a b : Semitones) → b ≡ a → P a → P b

@@ -7,8 +7,8 @@ mod edges;
 mod names;
 mod slots;
 
-ghost use Rattle.std.specs.Prelude.{◌≡◌, ℕ, ◌<◌, ◌≤◌, min, false, length};
-ghost use Rattle.records.specs.Slots.{live_at, Linked, Keeps};
+ghost use Rattle.std.specs.Prelude.{◌≡◌, ℕ, ◌<◌, ◌≤◌, min, false, length, count_by};
+ghost use Rattle.records.specs.Slots.{idle, live_at, Linked, Keeps};
 ghost use Rattle.semitones.specs.Cells.{Sound, stores};
 ghost use Rattle.semitones.specs.Says.{AllSay};
 ghost use Rattle.semitones.specs.View.{viewed};
@@ -30,6 +30,7 @@ pub struct Semitones<'a> {
     head: u16,
     spare: u16,
     ghost small: { length slots.now ≤ 1024 },
+    ghost counted: { spare ≡ count_by idle slots.now },
     ghost linked: { Linked slots.now head spare },
     ghost kept: { Keeps (λ r. ∥ Sound r ∥₁) slots.now },
 }

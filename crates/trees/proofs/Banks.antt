@@ -20,7 +20,7 @@ use Rattle.trees.specs.laws.Shapes.{sound_alike, solves_alike}
 use Rattle.trees.proofs.Blanks.{blank_sound, blank_solves}
 
 pub orderly : (b : Trees) → Orderly Kept b.slots.now b.head b.spare
-orderly b = record { small = b.small; linked = b.linked; kept = b.kept }
+orderly b = record { small = b.small; counted = b.counted; linked = b.linked; kept = b.kept }
 
 -- what was found of a bank holds of it, once it is taken out of its place
 pub since : (P : Trees → Type 0) (a b : Trees) → b ≡ a → P a → P b

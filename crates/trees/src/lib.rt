@@ -11,8 +11,8 @@ mod tasks;
 mod tells;
 mod text;
 
-ghost use Rattle.std.specs.Prelude.{◌≡◌, ℕ, ◌<◌, ◌≤◌, min, true, false, length};
-ghost use Rattle.records.specs.Slots.{live_at, Linked, Keeps};
+ghost use Rattle.std.specs.Prelude.{◌≡◌, ℕ, ◌<◌, ◌≤◌, min, true, false, length, count_by};
+ghost use Rattle.records.specs.Slots.{idle, live_at, Linked, Keeps};
 ghost use Rattle.trees.specs.Kind.{trees};
 ghost use Rattle.trees.specs.Values.{Kept};
 ghost use Rattle.trees.specs.Meaning.{means};
@@ -34,6 +34,7 @@ pub struct Trees<'a> {
     head: u16,
     spare: u16,
     ghost small: { length slots.now ≤ 1024 },
+    ghost counted: { spare ≡ count_by idle slots.now },
     ghost linked: { Linked slots.now head spare },
     ghost kept: { Keeps Kept slots.now },
 }

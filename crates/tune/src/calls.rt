@@ -32,14 +32,14 @@ pub fn fork<B: Bank>(rt: &HostRuntime, b: &mut B, store: u16) -> io::Result<u16>
 fn vars(rt: &HostRuntime, vars: &Vars) -> io::Result<()> {
     match vars {
         Vars::Zero => Ok(()),
-        Vars::One(x) => print!(rt, " x{x}"),
-        Vars::Two(x, y) => print!(rt, " x{x} x{y}"),
-        Vars::Three(x, y, z) => print!(rt, " x{x} x{y} x{z}"),
+        Vars::One(x) => print!(rt; " x{x}"),
+        Vars::Two(x, y) => print!(rt; " x{x} x{y}"),
+        Vars::Three(x, y, z) => print!(rt; " x{x} x{y} x{z}"),
     }
 }
 
 pub fn tell<B: Bank>(rt: &HostRuntime, b: &mut B, store: u16, c: &Constraint) -> io::Result<()> {
-    print!(rt, "tell {store}: code {} k {}", c.code, c.k)?;
+    print!(rt; "tell {store}: code {} k {}", c.code, c.k)?;
     vars(rt, &c.vars)?;
     match b.tell(store, c) {
         Ok(Effect::Kept) => println!(rt; ": kept"),

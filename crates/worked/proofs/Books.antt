@@ -7,7 +7,7 @@ use Rattle.book.specs.declared.refusal.Cause.TheVariants.{TextEnds}
 use Rattle.book.specs.Language.{tell, disj, fresh, call, Rules}
 use Rattle.book.specs.Reading.{reading, book}
 use Rattle.book.proofs.Law.{reads_only}
-use Rattle.machine.specs.Refutations.{both_ways as both-ways-rules, again as again-rules}
+use Rattle.machine.specs.Examples.{both_ways as both-ways-rules, again as again-rules}
 use Rattle.worked.specs.Rows.{Reads, Refused, ReadAlike}
 use Rattle.worked.specs.Table.{two_ways, two_ways_bare, two_ways_cut, both_ways, again, inside, fifth, idle}
 

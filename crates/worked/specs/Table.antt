@@ -1,7 +1,7 @@
 -- The table of worked examples. Assumes nothing.
 --
---   two_ways    one slot, 60 or 67; two-ways-bare lacks the last newline, and two-ways-cut the last line
---   both-ways   two equal slots, 60 or 67
+--   two_ways    one slot, 60 or 67; two_ways_bare lacks the last newline, and two_ways_cut the last line
+--   both_ways   two equal slots, 60 or 67
 --   again       a rule that calls itself first, or else its slot is 5
 --   inside      a slot that would have itself inside
 --   fifth       a slot 7 above another

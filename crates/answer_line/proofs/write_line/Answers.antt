@@ -4,8 +4,8 @@ use Rattle.answer_line.proofs.Laying.{line_put, line_written, line_refused}
 use Rattle.answer_line.proofs.Telling.{fields_tell}
 use Rattle.answer_line.proofs.write_line.Goals as goal
 
-pub put-field-requires : goal.put-field-requires
-put-field-requires g c = record { live = c.requires.live; known = omega arith; room = omega arith; within = c.loop-var.invariant.within }
+pub put_field-requires : goal.put_field-requires
+put_field-requires g c = record { live = c.requires.live; known = omega arith; room = omega arith; within = c.loop-var.invariant.within }
 
 pub loop-var-preserved : goal.loop-var-preserved
 loop-var-preserved g c =
@@ -16,7 +16,7 @@ pub returns-in-Err : goal.returns-in-Err
 returns-in-Err g c = record {
   writes =
       line_refused ((g.B.Bank.view.meaning c.args.bank.now).text c.args.store) c.loop-var.var _ c.loop-var.pos c.args.buffer.now
-      c.loop-var.buffer c.put-field.new.buffer c.clear-line.new.buffer _ c.loop-var-test.true c.loop-var.invariant c.in-Err.ensures c.clear-line.ensures;
+      c.loop-var.buffer c.put_field.new.buffer c.clear_line.new.buffer _ c.loop-var-test.true c.loop-var.invariant c.in-Err.ensures c.clear_line.ensures;
   tells = fields_tell g.B.Bank.view c.args.bank.now _ _ c.requires.live (omega (arith, g.B.Bank.view.laws.wide));
 }
 

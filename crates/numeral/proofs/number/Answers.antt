@@ -11,16 +11,16 @@ returns-then-not-leads c =
     let reads = unled_reads c.args.max c.args.field.now (omega arith) (sym c.if-not-leads.ensures) in
     record { value = reads_is c.args.max c.args.field.now None (omega arith) reads; reads = reads }
 
-pub returns-in-err-value : goal.returns-in-err-value
-returns-in-err-value c =
-    let stops = scan_stops c.args.max c.loop-digit.value c.args.field.now c.loop-digit.digit-index c.loop-digit-test.true c.in-err-value.ensures in
-    let none = c.from-residual.ensures in
-    let reads = scan_reads c.args.max c.args.field.now c.from-residual.result (omega arith) (sym c.if-not-leads.ensures) (none ∙ sym stops ∙ c.loop-digit.invariant) in
-    record { value = reads_is c.args.max c.args.field.now c.from-residual.result (omega arith) reads; reads = reads }
+pub returns-in_err-value : goal.returns-in_err-value
+returns-in_err-value c =
+    let stops = scan_stops c.args.max c.loop-digit.value c.args.field.now c.loop-digit.digit-index c.loop-digit-test.true c.in_err-value.ensures in
+    let none = c.from_residual.ensures in
+    let reads = scan_reads c.args.max c.args.field.now c.from_residual.result (omega arith) (sym c.if-not-leads.ensures) (none ∙ sym stops ∙ c.loop-digit.invariant) in
+    record { value = reads_is c.args.max c.args.field.now c.from_residual.result (omega arith) reads; reads = reads }
 
 pub loop-digit-preserved : goal.loop-digit-preserved
 loop-digit-preserved c =
-    sym (scan_more c.args.max c.loop-digit.value c.args.field.now c.loop-digit.digit-index c.in-ok-value.value c.loop-digit-test.true c.in-ok-value.ensures) ∙ c.loop-digit.invariant
+    sym (scan_more c.args.max c.loop-digit.value c.args.field.now c.loop-digit.digit-index c.in_ok-value.value c.loop-digit-test.true c.in_ok-value.ensures) ∙ c.loop-digit.invariant
 
 pub returns : goal.returns
 returns c =

@@ -30,9 +30,11 @@ returns g c =
     let slots = c.loop-i.slots in
     let end : length slots ≡ c.loop-i.i = omega arith in
     let L = c.loop-i.invariant.1 in
+    let line = subst (λ (n : ℕ). Line slots 0 n) (sym c.loop-i.invariant.0) (lined_line slots c.loop-i.i L (sym end)) in
     record {
       all = omega arith;
       none = λ k. ⊎_elim (λ l. L.free k (omega arith)) (λ h. past_idle slots k h) (cases_lt k (length slots));
-      linked = ∣ subst (λ (n : ℕ). Line slots 0 n) (sym c.loop-i.invariant.0) (lined_line slots c.loop-i.i L (sym end)) ∣₁;
+      counted = line.counted;
+      linked = ∣ line ∣₁;
       same = c.loop-i.invariant.2;
     }

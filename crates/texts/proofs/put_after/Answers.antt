@@ -4,6 +4,6 @@ use Rattle.texts.proofs.put_after.Goals as goal
 
 pub returns : goal.returns
 returns c =
-    let b = c.put-both in
+    let b = c.put_both in
     let both = b.ensures in
     adds_then (c.args.byte ∷ []) (decimal c.args.n) c.args.part.now both.0 b.new.part c.args.end both.1 b.result both.2 both.3

@@ -11,15 +11,15 @@ use Rattle.book.proofs.Book.end_of.Goals as goal
 next : (c : goal.After-line) → line_at (book_nodes c.args.self.now) (get_or (book_rules c.args.self.now) c.args.r no_rule).goal + 1 + size (rule_at (meaning c.args.self.now) c.args.r).goal ≡ c.line.result
 next c =
     let b = c.args.self.now in
-    size_between b c.args.r c.requires (omega (arith, c.rule-count.ensures.rules)) ∙ sym (c.line.ensures ∙ ap (λ (q : Rule). line_at (book_nodes b) q.goal) c.rule.ensures.value)
+    size_between b c.args.r c.requires (omega (arith, c.rule_count.ensures.rules)) ∙ sym (c.line.ensures ∙ ap (λ (q : Rule). line_at (book_nodes b) q.goal) c.rule.ensures.value)
 
-pub overflow-sub-result : goal.overflow-sub-result
-overflow-sub-result c = omega (arith, next c)
+pub overflow_sub-result : goal.overflow_sub-result
+overflow_sub-result c = omega (arith, next c)
 
-pub returns-then-r-rule-count : goal.returns-then-r-rule-count
-returns-then-r-rule-count c = omega (arith, next c)
+pub returns-then-r-rule_count : goal.returns-then-r-rule_count
+returns-then-r-rule_count c = omega (arith, next c)
 
-pub returns-else-r-rule-count : goal.returns-else-r-rule-count
-returns-else-r-rule-count c =
+pub returns-else-r-rule_count : goal.returns-else-r-rule_count
+returns-else-r-rule_count c =
     let b = c.args.self.now in
-    omega (arith, size_last b c.args.r c.requires (omega (arith, c.rule-count.ensures.rules)), c.rule-count-else-r-rule-count.ensures.rules, c.goal-count.ensures.nodes, rules_used_lem b, nodes_used b.table)
+    omega (arith, size_last b c.args.r c.requires (omega (arith, c.rule_count.ensures.rules)), c.rule_count-else-r-rule_count.ensures.rules, c.goal_count.ensures.nodes, rules_used_lem b, nodes_used b.table)

@@ -6,5 +6,5 @@ use Rattle.book.proofs.Book.goal_count.Goals as goal
 pub returns : goal.returns
 returns c =
     let b = c.args.self.now in
-    let e = c.goals-used.ensures ∙ sym (nodes_used b.table) in
+    let e = c.goals_used.ensures ∙ sym (nodes_used b.table) in
     record { nodes = e; means = e ∙ goals_all b }

@@ -7,5 +7,5 @@ use Rattle.book.proofs.Book.rule_count.Goals as goal
 pub returns : goal.returns
 returns c =
     let b = c.args.self.now in
-    let e = c.rules_used_lem.ensures ∙ sym (rules_used_lem b) in
+    let e = c.rules_used.ensures ∙ sym (rules_used_lem b) in
     record { rules = e; means = e ∙ sym (rules_length (book_nodes b) (book_rules b)); well = every_book b }

@@ -5,13 +5,17 @@ use Rattle.book.proofs.Grows.{nested_more}
 use Rattle.book.proofs.Walks.{nodes_used}
 use Rattle.book.proofs.Table.add.Goals as goal
 
-pub invariant-of-self : goal.invariant-of-self
-invariant-of-self c =
+pub invariant_of-self : goal.invariant_of-self
+invariant_of-self c =
     let t = c.args.self.now in
     let long = nodes_used t in
     let inside : t.count < length t.goals = omega (arith, t.room, c.requires.room) in
     let more = take_more_set t.goals t.count c.args.node inside in
-    (length-set t.goals t.count c.args.node ∙ t.room, (omega (arith, c.requires.room), (subst (λ l. nested [] l ≡ true) (sym more) (nested_more [] (take t.count t.goals) c.args.node t.well c.requires.fits), tt)))
+    record {
+      room = length-set t.goals t.count c.args.node ∙ t.room;
+      few = omega (arith, c.requires.room);
+      well = subst (λ l. nested [] l ≡ true) (sym more) (nested_more [] (take t.count t.goals) c.args.node t.well c.requires.fits);
+    }
 
 pub returns : goal.returns
 returns c =

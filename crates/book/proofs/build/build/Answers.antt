@@ -25,8 +25,8 @@ loop-at-init c = built_start c.args.draft.now c.empty-table.result _ c.new-roots
 turned : (d : Draft) (at : ℕ) (table : Table) (rules : List RuleOf) (whole : ℕ) (roots : Stack ℕ) → 0 < at → Built d at table rules whole roots → Built d (at - 1 + 1) table rules whole roots
 turned d at table rules whole roots pos was = let back : at ≡ at - 1 + 1 = omega arith in subst (λ n. Built d n table rules whole roots) back was
 
-pub overflow-sub-whole : goal.overflow-sub-whole
-overflow-sub-whole c =
+pub overflow_sub-whole : goal.overflow_sub-whole
+overflow_sub-whole c =
     let d = c.args.draft.now in
     let l = c.loop-at in
     whole_here d (in_turn d c.requires.passed) c.requires.fitting (l.at - 1) none_read (omega arith) c.in-Rule.params c.in-Rule.is l.table l.rules l.whole l.roots (turned d l.at l.table l.rules l.whole l.roots c.loop-at-test.true l.invariant)
@@ -45,7 +45,7 @@ plant-requires c =
     let d = c.args.draft.now in
     let l = c.loop-at in
     let was = turned d l.at l.table l.rules l.whole l.roots c.loop-at-test.true l.invariant in
-    let goal = goal_line (get_or d.listed (l.at - 1) none_read).line c.in-default.not-Rule in
+    let goal = goal_line (get_or d.listed (l.at - 1) none_read).line c.in_default.not-Rule in
     let plants = plants_here d (in_turn d c.requires.passed) c.requires.fitting (l.at - 1) none_read (omega arith) l.table l.rules l.whole l.roots goal was in
     let room = room_here d (in_turn d c.requires.passed) c.requires.fitting (l.at - 1) none_read (omega arith) l.table l.rules l.whole l.roots goal was in
     record { place = room; slot = omega (arith, plants.fewer, l.invariant.slots); fits = plants.fits }
@@ -55,7 +55,7 @@ loop-at-preserved c =
     let d = c.args.draft.now in
     let l = c.loop-at in
     let was = turned d l.at l.table l.rules l.whole l.roots c.loop-at-test.true l.invariant in
-    let goal = goal_line (get_or d.listed (l.at - 1) none_read).line c.in-default.not-Rule in
+    let goal = goal_line (get_or d.listed (l.at - 1) none_read).line c.in_default.not-Rule in
     let told = c.plant.ensures in
     goal_built d (in_turn d c.requires.passed) c.requires.fitting (l.at - 1) none_read (omega arith) l.table c.plant.new.table l.rules l.whole l.roots c.plant.new.roots goal was told.added told.waits told.room
 
@@ -63,12 +63,17 @@ loop-at-preserved c =
 ended : (d : Draft) (at : ℕ) (table : Table) (rules : List RuleOf) (whole : ℕ) (roots : Stack ℕ) → at ≤ 0 → Built d at table rules whole roots → Built d 0 table rules whole roots
 ended d at table rules whole roots none was = let e : at ≡ 0 = omega arith in subst (λ n. Built d n table rules whole roots) e was
 
-pub invariant-of-result : goal.invariant-of-result
-invariant-of-result c =
+pub invariant_of-result : goal.invariant_of-result
+invariant_of-result c =
     let d = c.args.draft.now in
     let l = c.loop-at in
     let all = built_all d (in_turn d c.requires.passed) l.table l.rules l.whole l.roots (ended d l.at l.table l.rules l.whole l.roots (omega arith) l.invariant) in
-    (l.invariant.size, (d.few_rules, (all.0, (all.1, tt))))
+    record {
+      rules_room = l.invariant.size;
+      few_rules = d.few_rules;
+      well_rooted = all.0;
+      well_called = all.1;
+    }
 
 pub returns : goal.returns
 returns c =

@@ -10,8 +10,8 @@ pub returns : goal.returns
 returns c =
     let s = c.args.self.now in
     let text = s.text.now in
-    let n = c.field-len.result in
-    let told = c.field-len.ensures in
+    let n = c.field_len.result in
+    let told = c.field_len.ensures in
     let scan : Scan n (take (length text - s.pos) (drop s.pos text)) =
     record { within = told.within; plain = told.plain; stops = told.stops } in
     let mine : here s ≡ fields (before (rest s)) = cond-true s.inside _ _ c.if-not-self.false in

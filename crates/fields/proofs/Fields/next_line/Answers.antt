@@ -7,27 +7,27 @@ use Rattle.fields.proofs.Joining.{joined_fields}
 use Rattle.fields.proofs.Moves.{outside, before_end, later_end, later_first}
 use Rattle.fields.proofs.Fields.next_line.Goals as goal
 
-pub returns-then-is-at-end : goal.returns-then-is-at-end
-returns-then-is-at-end c =
+pub returns-then-is_at_end : goal.returns-then-is_at_end
+returns-then-is_at_end c =
     let g = c.next.new.self in
-    let gave = c.in-default.ensures.does in
+    let gave = c.in_default.ensures.does in
     let none : here g ≡ [] = ap here gave.1 ∙ gave.0 in
-    let all : later g ≡ [] = later_end g none (eqb-true _ _ (sym c.is-at-end.ensures ∙ c.if-is-at-end.true)) in
+    let all : later g ≡ [] = later_end g none (eqb-true _ _ (sym c.is_at_end.ensures ∙ c.if-is_at_end.true)) in
     record { does = (sym c.loop.invariant.0 ∙ sym (ap later gave.1) ∙ all, none, all, ap (λ f. f.line) gave.1 ∙ c.loop.invariant.1) }
 
 pub begin-requires : goal.begin-requires
 begin-requires c =
     let g = c.next.new.self in
-    let gave = c.in-default.ensures.does in
-    record { between = outside g (ap here gave.1 ∙ gave.0); more = before_end g (sym c.is-at-end.ensures ∙ c.if-is-at-end.false) }
+    let gave = c.in_default.ensures.does in
+    record { between = outside g (ap here gave.1 ∙ gave.0); more = before_end g (sym c.is_at_end.ensures ∙ c.if-is_at_end.false) }
 
 pub returns : goal.returns
 returns c =
     let f = c.next.new.self in
     let g = c.begin.new.self in
-    let gave = c.in-default.ensures.does in
+    let gave = c.in_default.ensures.does in
     let begun = c.begin.ensures in
-    let first = later_first f (ap here gave.1 ∙ gave.0) (before_end f (sym c.is-at-end.ensures ∙ c.if-is-at-end.false)) in
+    let first = later_first f (ap here gave.1 ∙ gave.0) (before_end f (sym c.is_at_end.ensures ∙ c.if-is_at_end.false)) in
     let mine : here g ≡ fields (before (rest f)) = (λ i. cond (begun.inside i) (fields (before (begun.place i))) []) in
     let behind : lines (after (rest f)) ≡ later g = sym (λ i. lines (cond (begun.inside i) (after (begun.place i)) (begun.place i))) in
     let count = begun.line ∙ ap (λ q. q.line + 1) gave.1 ∙ ap (λ n. n + 1) c.loop.invariant.1 in

@@ -8,8 +8,8 @@ use Rattle.frontier.proofs.steps.step_leaf.Goals as goal
 pub form-requires : goal.form-requires
 form-requires g c = goal_inside c.args.leaf c.requires.ready.1.0 (ready_at c.args.leaf c.requires.here c.requires.ready.1.1)
 
-pub step-tell-requires : goal.step-tell-requires
-step-tell-requires g c =
+pub step_tell-requires : goal.step_tell-requires
+step_tell-requires g c =
     let l = c.args.leaf in
     let r = ready_at l c.requires.here c.requires.ready.1.1 in
     let f = c.in-Tell.ensures in
@@ -20,30 +20,30 @@ returns-in-Tell g c =
     let l = c.args.leaf in
     record {
       does = λ rules T r. went_at l c.requires.here
-          (told_went _ l T c.in-Tell.tell c.step_tell_lem.result c.in-Tell.ensures.stands c.step_tell_lem.ensures g.B.Bank.view.laws.some_value) r;
+          (told_went _ l T c.in-Tell.tell c.step_tell.result c.in-Tell.ensures.stands c.step_tell.ensures g.B.Bank.view.laws.some_value) r;
       kept = refl;
       cap = refl;
-      boxed = told_boxed l _ c.in-Tell.tell c.step_tell_lem.result c.requires.here c.step_tell_lem.ensures;
+      boxed = told_boxed l _ c.in-Tell.tell c.step_tell.result c.requires.here c.step_tell.ensures;
     }
 
-pub returns-then-short-of : goal.returns-then-short-of
-returns-then-short-of g c = record {
+pub returns-then-short_of : goal.returns-then-short_of
+returns-then-short_of g c = record {
   does = (
     record { tree = refl; bank = unchanged },
     λ rules T r.
-        or_short c.args.leaf T c.in-Or.first c.in-Or.second c.in-Or.ensures.stands (ltb-true _ 2 (sym c.short-of.ensures ∙ c.if-short-of.true)) (ready_at c.args.leaf c.requires.here r),
+        or_short c.args.leaf T c.in-Or.first c.in-Or.second c.in-Or.ensures.stands (ltb-true _ 2 (sym c.short_of.ensures ∙ c.if-short_of.true)) (ready_at c.args.leaf c.requires.here r),
   );
   kept = refl;
   cap = refl;
   boxed = tt;
 }
 
-pub returns-in-err-store : goal.returns-in-err-store
-returns-in-err-store g c =
+pub returns-in_err-store-in-Or : goal.returns-in_err-store-in-Or
+returns-in_err-store-in-Or g c =
     let l = c.args.leaf in
-    let p = err_from_is_err_and c.from-residual.result c.from-residual.ensures.1 in
-    let f = no_second l.store c.in-err-store.field-0.0 (store_live l c.requires.ready.1.0 (ready_at l c.requires.here c.requires.ready.1.1)) c.in-err-store.ensures in
-    let two : 2 ≤ vec_len c.args.pool.now = ltb-false _ 2 (sym c.short-of.ensures ∙ c.if-short-of.false) in
+    let p = err_from_is_err_and c.from_residual.result c.from_residual.ensures.1 in
+    let f = no_second l.store c.in_err-store-in-Or.field-0.0 (store_live l c.requires.ready.1.0 (ready_at l c.requires.here c.requires.ready.1.1)) c.in_err-store-in-Or.ensures in
+    let two : 2 ≤ vec_len c.args.pool.now = ltb-false _ 2 (sym c.short_of.ensures ∙ c.if-short_of.false) in
     rw (p.1, p.2) record {
       does = (
         record { tree = refl; bank = f.same },
@@ -55,32 +55,32 @@ returns-in-err-store g c =
       boxed = tt;
     }
 
-pub returns-in-ok-store : goal.returns-in-ok-store
-returns-in-ok-store g c =
+pub returns-in_ok-store-in-Or : goal.returns-in_ok-store-in-Or
+returns-in_ok-store-in-Or g c =
     let l = c.args.leaf in
     record {
       does = λ rules T r. went_at l c.requires.here
-          (disj_went c.boxed-a.result c.boxed-b.result l T c.in-Or.first c.in-Or.second c.in-ok-store.store c.in-Or.ensures.stands
-          (c.boxed-a.ensures.holds ∙ c.leaf.ensures) (c.boxed-b.ensures.holds ∙ c.leaf-in-Or.ensures) c.in-ok-store.ensures.1) r;
+          (disj_went c.boxed-a.result c.boxed-b.result l T c.in-Or.first c.in-Or.second c.in_ok-store-in-Or.store c.in-Or.ensures.stands
+          (c.boxed-a.ensures.holds ∙ c.leaf.ensures) (c.boxed-b.ensures.holds ∙ c.leaf-in-Or.ensures) c.in_ok-store-in-Or.ensures.1) r;
       kept = search rules;
       cap = search rules;
       boxed = search rules;
     }
 
-pub returns-then-short-of-2 : goal.returns-then-short-of-2
-returns-then-short-of-2 g c = record {
+pub returns-then-short_of-2 : goal.returns-then-short_of-2
+returns-then-short_of-2 g c = record {
   does = (
     record { tree = refl; bank = unchanged },
     λ rules T r.
-        and_short c.args.leaf T c.in-And.first c.in-And.second c.in-And.ensures.stands (ltb-true _ 1 (sym c.short-of-in-And.ensures ∙ c.if-short-of-2.true)) (ready_at c.args.leaf c.requires.here r),
+        and_short c.args.leaf T c.in-And.first c.in-And.second c.in-And.ensures.stands (ltb-true _ 1 (sym c.short_of-in-And.ensures ∙ c.if-short_of-2.true)) (ready_at c.args.leaf c.requires.here r),
   );
   kept = refl;
   cap = refl;
   boxed = tt;
 }
 
-pub returns-else-short-of-2 : goal.returns-else-short-of-2
-returns-else-short-of-2 g c =
+pub returns-else-short_of-2 : goal.returns-else-short_of-2
+returns-else-short_of-2 g c =
     let l = c.args.leaf in
     record {
       does = λ rules T r. went_at l c.requires.here
@@ -90,12 +90,12 @@ returns-else-short-of-2 g c =
       boxed = search rules;
     }
 
-pub returns-then-all-used : goal.returns-then-all-used
-returns-then-all-used g c = record {
+pub returns-then-all_used : goal.returns-then-all_used
+returns-then-all_used g c = record {
   does = (
     record { tree = refl; bank = unchanged },
     λ rules T r.
-        new_full c.args.leaf T c.in-New.goal c.in-New.ensures.stands (eqb-true _ _ (sym c.all_used_lem.ensures ∙ c.if-all-used.true)) (ready_at c.args.leaf c.requires.here r),
+        new_full c.args.leaf T c.in-New.goal c.in-New.ensures.stands (eqb-true _ _ (sym c.all_used.ensures ∙ c.if-all_used.true)) (ready_at c.args.leaf c.requires.here r),
   );
   kept = refl;
   cap = refl;
@@ -108,12 +108,12 @@ extend-frame-requires g c =
     let r = ready_at l c.requires.here c.requires.ready.1.1 in
     record { frame = frame_sized l c.requires.ready.1.0 r; room = frame_room l c.requires.ready.1.0 c.in-New.goal c.in-New.ensures.stands r }
 
-pub returns-else-all-used : goal.returns-else-all-used
-returns-else-all-used g c =
+pub returns-else-all_used : goal.returns-else-all_used
+returns-else-all_used g c =
     let l = c.args.leaf in
     record {
       does = λ rules T r. went_as c.leaf-in-New.ensures (went_at l c.requires.here
-          (fresh_went _ l T c.in-New.goal c.in-New.ensures.stands (eqb-false _ _ (sym c.all_used_lem.ensures ∙ c.if-all-used.false)) refl c.extend-frame.ensures.sized c.extend-frame.ensures.is refl refl) r);
+          (fresh_went _ l T c.in-New.goal c.in-New.ensures.stands (eqb-false _ _ (sym c.all_used.ensures ∙ c.if-all_used.false)) refl c.extend-frame.ensures.sized c.extend-frame.ensures.is refl refl) r);
       kept = search rules;
       cap = search rules;
       boxed = search rules;

@@ -7,7 +7,7 @@ use Rattle.frontier.proofs.steps.take_up.Goals as goal
 pub returns-then-ended : goal.returns-then-ended
 returns-then-ended c = record {
   does = subst (λ (d : Bool). TakesUp d c.args.t.now c.args.leaf c.replace.new.dest) (sym c.if-ended.true) c.replace.ensures.after;
-  kept = omega (arith, c.give-back.ensures.len, ap boxes c.replace.ensures.after, ap boxes c.replace.ensures.value, c.requires.leaf);
+  kept = omega (arith, c.give_back.ensures.len, ap boxes c.replace.ensures.after, ap boxes c.replace.ensures.value, c.requires.leaf);
   cap = search rules;
 }
 

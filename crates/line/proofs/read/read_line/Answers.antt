@@ -11,18 +11,18 @@ pub returns-then-not-takes : goal.returns-then-not-takes
 returns-then-not-takes c =
     let n = c.args.fields.now.given in
     let fs = here c.args.fields.now in
-    let word = c.in-ok-word.ensures in
-    let count : takes c.in-ok-word.word (length (here c.next-word.new.fields)) ≡ false = ap (takes c.in-ok-word.word) (sym c.left.ensures) ∙ sym c.if-not-takes.ensures in
-    let does = sym (outcome_count n c.next-word.new.fields.given fs (here c.next-word.new.fields) c.in-ok-word.word word.does word.next.behind word.next.number count) in
+    let word = c.in_ok-word.ensures in
+    let count : takes c.in_ok-word.word (length (here c.next_word.new.fields)) ≡ false = ap (takes c.in_ok-word.word) (sym c.left.ensures) ∙ sym c.if-not-takes.ensures in
+    let does = sym (outcome_count n c.next_word.new.fields.given fs (here c.next_word.new.fields) c.in_ok-word.word word.does word.next.behind word.next.number count) in
     record { does = does; exact = subst (Exact fs) (sym does) (exact n fs); sized = tt; rest = word.rest }
 
 pub returns : goal.returns
 returns c =
     let n = c.args.fields.now.given in
     let fs = here c.args.fields.now in
-    let word = c.in-ok-word.ensures in
-    let numbers = c.numbers-behind.ensures in
-    let count : takes c.in-ok-word.word (length (here c.next-word.new.fields)) ≡ true = ap (takes c.in-ok-word.word) (sym c.left.ensures) ∙ sym c.if-not-takes.ensures in
-    let does = numbers.does ∙ sym (outcome_numbered n c.next-word.new.fields.given fs (here c.next-word.new.fields) c.in-ok-word.word word.does word.next.behind word.next.number count) in
-    let rest : Stays c.args.fields.now c.numbers-behind.new.fields = record { behind = numbers.rest.behind ∙ word.rest.behind; number = numbers.rest.number ∙ word.rest.number } in
+    let word = c.in_ok-word.ensures in
+    let numbers = c.numbers_behind.ensures in
+    let count : takes c.in_ok-word.word (length (here c.next_word.new.fields)) ≡ true = ap (takes c.in_ok-word.word) (sym c.left.ensures) ∙ sym c.if-not-takes.ensures in
+    let does = numbers.does ∙ sym (outcome_numbered n c.next_word.new.fields.given fs (here c.next_word.new.fields) c.in_ok-word.word word.does word.next.behind word.next.number count) in
+    let rest : Stays c.args.fields.now c.numbers_behind.new.fields = record { behind = numbers.rest.behind ∙ word.rest.behind; number = numbers.rest.number ∙ word.rest.number } in
     record { does = does; exact = subst (Exact fs) (sym does) (exact n fs); sized = numbers.sized; rest = rest }

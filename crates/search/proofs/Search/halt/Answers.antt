@@ -4,4 +4,4 @@ use Rattle.search.proofs.Advance.{goal_inside}
 use Rattle.search.proofs.Search.halt.Goals as goal
 
 pub line-requires : goal.line-requires
-line-requires g c = omega (arith, c.next_goal_lem.ensures, goal_inside g.B.Bank.view c.args.self.now c.requires.good c.requires.posed c.requires.going)
+line-requires g c = omega (arith, c.next_goal.ensures, goal_inside g.B.Bank.view c.args.self.now c.requires.good c.requires.posed c.requires.going)

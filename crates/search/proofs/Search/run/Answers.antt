@@ -8,7 +8,7 @@ use Rattle.search.proofs.Search.run.Goals as goal
 pub halt-requires : goal.halt-requires
 halt-requires g c =
     let h = c.in-Err.ensures in
-    let o = c.in-default.ensures in
+    let o = c.in_default.ensures in
     record {
       good = same_good g.B.Bank.view c.loop-outcome.self c.advance.new.self h.same c.loop-outcome.invariant.good;
       posed = h.same.posed ∙ c.loop-outcome.invariant.is_posed;
@@ -17,7 +17,7 @@ halt-requires g c =
 
 pub loop-outcome-preserved : goal.loop-outcome-preserved
 loop-outcome-preserved g c =
-    let o = c.in-default.ensures in
+    let o = c.in_default.ensures in
     let a = c.loop-outcome.invariant in
     let l : c.loop-outcome.steps < c.args.budget = omega (arith, a.few, o.2) in
     along_on g.B.Bank.view c.args.self.now c.loop-outcome.self c.advance.new.self c.loop-outcome.steps c.args.budget a l o.0 c.in-Ok.ensures
@@ -25,7 +25,7 @@ loop-outcome-preserved g c =
 pub returns-in-Err : goal.returns-in-Err
 returns-in-Err g c =
     let h = c.in-Err.ensures in
-    let o = c.in-default.ensures in
+    let o = c.in_default.ensures in
     let a = c.loop-outcome.invariant in
     let l : c.loop-outcome.steps < c.args.budget = omega (arith, a.few, o.2) in
     record {

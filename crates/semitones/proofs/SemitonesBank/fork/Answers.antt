@@ -15,10 +15,10 @@ copy-requires c =
     let b = c.take-slots.result in
     let m = stores a.slots.now a.spare in
     let from = c.args.store in
-    let to = c.in-ok-new.new in
+    let to = c.in_ok-new.new in
     let f = all_admitted whole 256 in
-    let was = sym c.if-not-is-live.ensures in
-    let A = since (λ (x : Semitones). Added m (stores x.slots.now x.spare) to f) c.open.new.self b c.take-slots.ensures c.in-ok-new.ensures in
+    let was = sym c.if-not-is_live.ensures in
+    let A = since (λ (x : Semitones). Added m (stores x.slots.now x.spare) to f) c.open.new.self b c.take-slots.ensures c.in_ok-new.ensures in
     record {
       source = live_within b.slots.now from (source m b from to f was A);
       target = live_within b.slots.now to A.is;
@@ -27,18 +27,23 @@ copy-requires c =
       room = sized m b from to f was A to A.is;
     }
 
-pub invariant-of-self : goal.invariant-of-self
-invariant-of-self c =
+pub invariant_of-self : goal.invariant_of-self
+invariant_of-self c =
     let a = c.args.self.now in
     let b = c.take-slots.result in
     let m = stores a.slots.now a.spare in
     let from = c.args.store in
-    let to = c.in-ok-new.new in
+    let to = c.in_ok-new.new in
     let f = all_admitted whole 256 in
-    let was = sym c.if-not-is-live.ensures in
-    let A = since (λ (x : Semitones). Added m (stores x.slots.now x.spare) to f) c.open.new.self b c.take-slots.ensures c.in-ok-new.ensures in
+    let was = sym c.if-not-is_live.ensures in
+    let A = since (λ (x : Semitones). Added m (stores x.slots.now x.spare) to f) c.open.new.self b c.take-slots.ensures c.in_ok-new.ensures in
     let O = copied_orderly m b from to f was A c.copy.new.slots c.copy.ensures in
-    (O.small, (O.linked, (O.kept, tt)))
+    record {
+      small = O.small;
+      counted = O.counted;
+      linked = O.linked;
+      kept = O.kept;
+    }
 
 pub returns : goal.returns
 returns c =
@@ -46,8 +51,8 @@ returns c =
     let b = c.take-slots.result in
     let m = stores a.slots.now a.spare in
     let from = c.args.store in
-    let to = c.in-ok-new.new in
+    let to = c.in_ok-new.new in
     let f = all_admitted whole 256 in
-    let was = sym c.if-not-is-live.ensures in
-    let A = since (λ (x : Semitones). Added m (stores x.slots.now x.spare) to f) c.open.new.self b c.take-slots.ensures c.in-ok-new.ensures in
+    let was = sym c.if-not-is_live.ensures in
+    let A = since (λ (x : Semitones). Added m (stores x.slots.now x.spare) to f) c.open.new.self b c.take-slots.ensures c.in_ok-new.ensures in
     (was, copied_added m b from to f was A c.copy.new.slots c.copy.ensures)

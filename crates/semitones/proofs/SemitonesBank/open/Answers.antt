@@ -15,15 +15,20 @@ begin-next-requires c =
     let b = c.take-slots.result in
     first_within Kept b.slots.now b.head b.spare (orderly b) (since (λ (x : Semitones). 0 < x.spare) a b c.take-slots.ensures (omega arith))
 
-pub overflow-sub-self : goal.overflow-sub-self
-overflow-sub-self c = since (λ (x : Semitones). 0 < x.spare) c.args.self.now c.take-slots.result c.take-slots.ensures (omega arith)
+pub overflow_sub-self : goal.overflow_sub-self
+overflow_sub-self c = since (λ (x : Semitones). 0 < x.spare) c.args.self.now c.take-slots.result c.take-slots.ensures (omega arith)
 
-pub invariant-of-self : goal.invariant-of-self
-invariant-of-self c =
+pub invariant_of-self : goal.invariant_of-self
+invariant_of-self c =
     let b = c.take-slots.result in
     let p = since (λ (x : Semitones). 0 < x.spare) c.args.self.now b c.take-slots.ensures (omega arith) in
     let O = subst (λ (n : ℕ). Orderly Kept c.begin-next.new.slots n (b.spare - 1)) (sym c.begin-next.ensures.next) (begun_orderly b p c.begin-next.new.slots c.begin-next.ensures.begun) in
-    (O.small, (O.linked, (O.kept, tt)))
+    record {
+      small = O.small;
+      counted = O.counted;
+      linked = O.linked;
+      kept = O.kept;
+    }
 
 pub returns : goal.returns
 returns c =

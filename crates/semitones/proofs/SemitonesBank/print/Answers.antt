@@ -8,17 +8,17 @@ use Rattle.semitones.specs.laws.Laws.{record_at, sound_at, text_at}
 use Rattle.semitones.proofs.SemitonesBank.print.Goals as goal
 
 pub bounds-slots-store : goal.bounds-slots-store
-bounds-slots-store c = live_within c.args.self.now.slots.now c.args.store (sym c.if-not-is-live.ensures)
+bounds-slots-store c = live_within c.args.self.now.slots.now c.args.store (sym c.if-not-is_live.ensures)
 
 pub write-requires : goal.write-requires
 write-requires c =
     let b = c.args.self.now in
-    record { sized = (sound_at b.slots.now b.kept c.args.store (sym c.if-not-is-live.ensures)).sized; within = c.if-var-ge256.false }
+    record { sized = (sound_at b.slots.now b.kept c.args.store (sym c.if-not-is_live.ensures)).sized; within = c.if-var-ge256.false }
 
 pub returns-in-Some : goal.returns-in-Some
 returns-in-Some c =
     let b = c.args.self.now in
-    let live = sym c.if-not-is-live.ensures in
+    let live = sym c.if-not-is_live.ensures in
     let p = c.args.part.now in
     let q = c.write.new.part in
     let n = c.in-Some.n in
@@ -37,7 +37,7 @@ returns-in-Some c =
 pub returns-in-None : goal.returns-in-None
 returns-in-None c =
     let b = c.args.self.now in
-    let live = sym c.if-not-is-live.ensures in
+    let live = sym c.if-not-is_live.ensures in
     let p = c.args.part.now in
     let text = text_at b.slots.now b.spare c.args.store live c.args.var in
     record {

@@ -16,34 +16,39 @@ pub bounds-slots-store : goal.bounds-slots-store
 bounds-slots-store c =
     let a = c.args.self.now in
     let b = c.take-slots.result in
-    live_within b.slots.now c.args.store (since_live a b c.take-slots.ensures c.args.store true c.if-not-is-live.ensures)
+    live_within b.slots.now c.args.store (since_live a b c.take-slots.ensures c.args.store true c.if-not-is_live.ensures)
 
 pub join-answer-requires : goal.join-answer-requires
 join-answer-requires c =
     let a = c.args.self.now in
     let b = c.take-slots.result in
-    let live = since_live a b c.take-slots.ensures c.args.store true c.if-not-is-live.ensures in
-    let e = c.in-ok-e.ensures in
+    let live = since_live a b c.take-slots.ensures c.args.store true c.if-not-is_live.ensures in
+    let e = c.in_ok-e.ensures in
     record { sound = sound_at b.slots.now b.kept c.args.store live; nodes = (e.a_node, e.b_node); close = e.close }
 
-pub invariant-of-self : goal.invariant-of-self
-invariant-of-self c =
+pub invariant_of-self : goal.invariant_of-self
+invariant_of-self c =
     let a = c.args.self.now in
     let b = c.take-slots.result in
     let i = c.args.store in
-    let live = since_live a b c.take-slots.ensures i true c.if-not-is-live.ensures in
+    let live = since_live a b c.take-slots.ensures i true c.if-not-is_live.ensures in
     let s = c.join-answer.new.r in
-    let S = joins_sound (record_at b.slots.now i) s c.in-ok-e.e c.join-answer.result (sound_at b.slots.now b.kept i live) c.join-answer.ensures in
+    let S = joins_sound (record_at b.slots.now i) s c.in_ok-e.e c.join-answer.result (sound_at b.slots.now b.kept i live) c.join-answer.ensures in
     let O = orderly_changed Kept b.slots.now b.head b.spare (orderly b) i s no_slot (live_within b.slots.now i live) (λ e. ∣ S ∣₁) in
-    (O.small, (O.linked, (O.kept, tt)))
+    record {
+      small = O.small;
+      counted = O.counted;
+      linked = O.linked;
+      kept = O.kept;
+    }
 
 pub returns : goal.returns
 returns c =
     let a = c.args.self.now in
     let b = c.take-slots.result in
     let i = c.args.store in
-    let live = since_live a b c.take-slots.ensures i true c.if-not-is-live.ensures in
+    let live = since_live a b c.take-slots.ensures i true c.if-not-is_live.ensures in
     let s = c.join-answer.new.r in
     subst (λ (x : Semitones). Tells whole 256 (stores x.slots.now x.spare) (stores (set b.slots.now i (changed b.slots.now i s)) b.spare) i (condition c.args.constraint.now) c.join-answer.result)
     c.take-slots.ensures
-    (tells b.slots.now b.spare i live (condition c.args.constraint.now) c.in-ok-e.e c.in-ok-e.ensures (sound_at b.slots.now b.kept i live) s c.join-answer.result c.join-answer.ensures)
+    (tells b.slots.now b.spare i live (condition c.args.constraint.now) c.in_ok-e.e c.in_ok-e.ensures (sound_at b.slots.now b.kept i live) s c.join-answer.result c.join-answer.ensures)

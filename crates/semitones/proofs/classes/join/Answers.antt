@@ -58,12 +58,12 @@ shift-requires c =
     record {
       sized = c.reach.ensures.same.sized;
       far = far_same c.args.r.now c.reach.new.r c.requires.sound c.reach.ensures.same;
-      little = back_small g c.gap-up.type-inv (gap_bound g c.place-a.result.by c.place-b.result.by c.args.e.now.k c.gap-up.ensures near.0 near.1 c.requires.close);
+      little = back_small g c.gap-up.type_inv (gap_bound g c.place-a.result.by c.place-b.result.by c.args.e.now.k c.gap-up.ensures near.0 near.1 c.requires.close);
       inside = omega (arith, c.place-b.ensures.root, c.requires.sound.low c.args.e.now.b, c.reach.ensures.reached, c.max.ensures);
     }
 
-pub gap-back-down-requires : goal.gap-back-down-requires
-gap-back-down-requires c = record {
+pub gap_back-down-requires : goal.gap_back-down-requires
+gap_back-down-requires c = record {
   far = nears c.args.r.now c.requires.sound c.args.e.now c.place-a.result c.place-b.result c.place-a.ensures.by c.place-b.ensures.by;
   close = c.requires.close;
 }
@@ -71,11 +71,11 @@ gap-back-down-requires c = record {
 pub shift-requires-else-a-b-2 : goal.shift-requires-else-a-b-2
 shift-requires-else-a-b-2 c =
     let near = nears c.args.r.now c.requires.sound c.args.e.now c.place-a.result c.place-b.result c.place-a.ensures.by c.place-b.ensures.by in
-    let g = c.gap-back-down.result in
+    let g = c.gap_back-down.result in
     record {
       sized = c.reach.ensures.same.sized;
       far = far_same c.args.r.now c.reach.new.r c.requires.sound c.reach.ensures.same;
-      little = back_small g c.gap-back-down.type-inv (gap_back_bound g c.place-b.result.by c.place-a.result.by c.args.e.now.k c.gap-back-down.ensures near.1 near.0 c.requires.close);
+      little = back_small g c.gap_back-down.type_inv (gap_back_bound g c.place-b.result.by c.place-a.result.by c.args.e.now.k c.gap_back-down.ensures near.1 near.0 c.requires.close);
       inside = omega (arith, c.place-a.ensures.root, c.requires.sound.low c.args.e.now.a, c.reach.ensures.reached, c.max.ensures);
     }
 
@@ -90,17 +90,17 @@ returns-then-a-b-2 c =
     let g = c.gap-up.result in
     joined_up c.args.r.now c.args.e.now c.requires.sound c.requires.nodes.0 c.requires.nodes.1 c.requires.close c.shift.new.r b.result.root a.result.root a.result.by b.result.by g
     a.ensures.by b.ensures.by
-    (moved_since c.args.r.now c.reach.new.r c.shift.new.r b.result.root a.result.root g c.reach.ensures.same c.gap-up.type-inv c.shift.ensures)
+    (moved_since c.args.r.now c.reach.new.r c.shift.new.r b.result.root a.result.root g c.reach.ensures.same c.gap-up.type_inv c.shift.ensures)
     a.ensures.root b.ensures.root c.if-a-b-2.true c.gap-up.ensures
 
 pub returns-else-a-b-2 : goal.returns-else-a-b-2
 returns-else-a-b-2 c =
     let a = c.place-a in
     let b = c.place-b in
-    let g = c.gap-back-down.result in
+    let g = c.gap_back-down.result in
     let s = c.shift-else-a-b-2.new.r in
     let ne : a.result.root ≢ b.result.root = c.if-a-b.false in
     joined_down c.args.r.now c.args.e.now c.requires.sound c.requires.nodes.0 c.requires.nodes.1 c.requires.close s a.result.root b.result.root a.result.by b.result.by g
     a.ensures.by b.ensures.by
-    (moved_since c.args.r.now c.reach.new.r s a.result.root b.result.root g c.reach.ensures.same c.gap-back-down.type-inv c.shift-else-a-b-2.ensures)
-    a.ensures.root b.ensures.root (omega (arith, c.if-a-b-2.false)) c.gap-back-down.ensures
+    (moved_since c.args.r.now c.reach.new.r s a.result.root b.result.root g c.reach.ensures.same c.gap_back-down.type_inv c.shift-else-a-b-2.ensures)
+    a.ensures.root b.ensures.root (omega (arith, c.if-a-b-2.false)) c.gap_back-down.ensures

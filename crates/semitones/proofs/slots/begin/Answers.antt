@@ -15,7 +15,7 @@ returns c =
       begun = record {
         new = r;
         blank = c.clear.ensures;
-        is = written_then at (holding r) begun slots (set slots at y) c.take-idle.new.slots c.requires (written at (holding r) slots no_slot y c.requires refl) c.take-idle.ensures.begun;
+        is = written_then at (holding r) begun slots (set slots at y) c.take_idle.new.slots c.requires (written at (holding r) slots no_slot y c.requires refl) c.take_idle.ensures.begun;
       };
-      next = c.take-idle.ensures.next ∙ next_same slots at y c.requires (sym (next_is slots at no_slot c.requires)) at;
+      next = c.take_idle.ensures.next ∙ next_same slots at y c.requires (sym (next_is slots at no_slot c.requires)) at;
     }

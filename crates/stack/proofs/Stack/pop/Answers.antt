@@ -5,5 +5,5 @@ use Rattle.stack.proofs.Stack.pop.Goals as goal
 
 pub returns : goal.returns
 returns g c =
-    let told = c.take-last.ensures in
-    record { does = one_popped c.args.self.now c.take-last.new.self c.take-last.result (let ne = eqb-false c.args.self.now.len 0 (sym c.if-used-none.ensures) in omega arith) told.value told.len told.slots; lender = told.lender }
+    let told = c.take_last.ensures in
+    record { does = one_popped c.args.self.now c.take_last.new.self c.take_last.result (let ne = eqb-false c.args.self.now.len 0 (sym c.if-used_none.ensures) in omega arith) told.value told.len told.slots; lender = told.lender }

@@ -1,8 +1,13 @@
 -- A bank over no slots.
-use Rattle.std.proofs.Common.{arith}
+use Rattle.std.proofs.Common.{refl, arith}
 use Rattle.std.proofs.lemmas.Bool.{false≢true}
 use Rattle.records.proofs.Lines.{line_none}
 use Rattle.trees.proofs.Trees.take.Goals as goal
 
-pub invariant-of-replace : goal.invariant-of-replace
-invariant-of-replace c = (omega arith, (∣ line_none ∣₁, ((λ i past e. absurd (false≢true e)), tt)))
+pub invariant_of-replace : goal.invariant_of-replace
+invariant_of-replace c = record {
+      small = omega arith;
+      counted = refl;
+      linked = ∣ line_none ∣₁;
+      kept = (λ i past e. absurd (false≢true e));
+    }

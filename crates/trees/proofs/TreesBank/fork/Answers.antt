@@ -15,10 +15,10 @@ copy-requires c =
     let b = c.take-slots.result in
     let m = means a.slots.now a.spare in
     let from = c.args.store in
-    let to = c.in-ok-new.new in
+    let to = c.in_ok-new.new in
     let f = all_admitted trees 256 in
     let was = sym c.if-not-has.ensures in
-    let A = since (λ (x : Trees). Added m (means x.slots.now x.spare) to f) c.open.new.self b c.take-slots.ensures c.in-ok-new.ensures in
+    let A = since (λ (x : Trees). Added m (means x.slots.now x.spare) to f) c.open.new.self b c.take-slots.ensures c.in_ok-new.ensures in
     record {
       source = live_within b.slots.now from (source m b from to f was A);
       target = live_within b.slots.now to A.is;
@@ -26,18 +26,23 @@ copy-requires c =
       few = source_few m b from to f was A;
     }
 
-pub invariant-of-self : goal.invariant-of-self
-invariant-of-self c =
+pub invariant_of-self : goal.invariant_of-self
+invariant_of-self c =
     let a = c.args.self.now in
     let b = c.take-slots.result in
     let m = means a.slots.now a.spare in
     let from = c.args.store in
-    let to = c.in-ok-new.new in
+    let to = c.in_ok-new.new in
     let f = all_admitted trees 256 in
     let was = sym c.if-not-has.ensures in
-    let A = since (λ (x : Trees). Added m (means x.slots.now x.spare) to f) c.open.new.self b c.take-slots.ensures c.in-ok-new.ensures in
+    let A = since (λ (x : Trees). Added m (means x.slots.now x.spare) to f) c.open.new.self b c.take-slots.ensures c.in_ok-new.ensures in
     let O = copied_orderly m b from to f was A c.copy.new.slots c.copy.ensures in
-    (O.small, (O.linked, (O.kept, tt)))
+    record {
+      small = O.small;
+      counted = O.counted;
+      linked = O.linked;
+      kept = O.kept;
+    }
 
 pub returns : goal.returns
 returns c =
@@ -45,8 +50,8 @@ returns c =
     let b = c.take-slots.result in
     let m = means a.slots.now a.spare in
     let from = c.args.store in
-    let to = c.in-ok-new.new in
+    let to = c.in_ok-new.new in
     let f = all_admitted trees 256 in
     let was = sym c.if-not-has.ensures in
-    let A = since (λ (x : Trees). Added m (means x.slots.now x.spare) to f) c.open.new.self b c.take-slots.ensures c.in-ok-new.ensures in
+    let A = since (λ (x : Trees). Added m (means x.slots.now x.spare) to f) c.open.new.self b c.take-slots.ensures c.in_ok-new.ensures in
     (was, copied_added m b from to f was A c.copy.new.slots c.copy.ensures)

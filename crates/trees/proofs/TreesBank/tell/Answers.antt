@@ -20,15 +20,20 @@ tell-answer-requires c =
       live = live;
       first = λ p. (first_within Kept b.slots.now b.head b.spare (orderly b) p, first_free Kept b.slots.now b.head b.spare (orderly b) p);
       sound = λ past. sound_at b.slots.now c.args.store live past b.kept;
-      proper = c.in-ok-t.ensures.proper;
+      proper = c.in_ok-t.ensures.proper;
     }
 
-pub invariant-of-self : goal.invariant-of-self
-invariant-of-self c =
+pub invariant_of-self : goal.invariant_of-self
+invariant_of-self c =
     let b = c.take-slots.result in
     let live = since_live c.args.self.now b c.take-slots.ensures c.args.store true c.if-not-has.ensures in
-    let O = told_orderly b.slots.now b.head b.spare c.args.store (orderly b) live c.in-ok-t.t c.tell-answer.new.slots c.tell-answer.result c.tell-answer.ensures in
-    (O.small, (O.linked, (O.kept, tt)))
+    let O = told_orderly b.slots.now b.head b.spare c.args.store (orderly b) live c.in_ok-t.t c.tell-answer.new.slots c.tell-answer.result c.tell-answer.ensures in
+    record {
+      small = O.small;
+      counted = O.counted;
+      linked = O.linked;
+      kept = O.kept;
+    }
 
 pub returns : goal.returns
 returns c =
@@ -36,4 +41,4 @@ returns c =
     let live = since_live c.args.self.now b c.take-slots.ensures c.args.store true c.if-not-has.ensures in
     subst (λ (x : Trees). Tells trees 256 (means x.slots.now x.spare) (means c.tell-answer.new.slots b.spare) c.args.store (condition c.args.constraint.now) c.tell-answer.result)
     c.take-slots.ensures
-    (told_tells b.slots.now b.head b.spare c.args.store (orderly b) live c.in-ok-t.t c.tell-answer.new.slots c.tell-answer.result c.tell-answer.ensures (condition c.args.constraint.now) c.in-ok-t.ensures)
+    (told_tells b.slots.now b.head b.spare c.args.store (orderly b) live c.in_ok-t.t c.tell-answer.new.slots c.tell-answer.result c.tell-answer.ensures (condition c.args.constraint.now) c.in_ok-t.ensures)

@@ -11,7 +11,7 @@ returns-then-a-b c =
     record {
       room = refl;
       joined = joined_already c.args.r.now c.args.e (items c.args.s.now) S (omega (arith, c.requires.named.0, S.used)) (omega (arith, c.requires.named.1, S.used)) c.requires.pending
-          (sym c.root-of-a.ensures ∙ c.if-a-b.true ∙ c.root-of-b.ensures);
+          (sym c.root_of-a.ensures ∙ c.if-a-b.true ∙ c.root_of-b.ensures);
     }
 
 pub returns-then-not-meet : goal.returns-then-not-meet
@@ -19,13 +19,13 @@ returns-then-not-meet c =
     let S = c.requires.shaped in
     let r = c.args.r.now in
     let e = c.args.e in
-    let f = c.form-at-f.result in
-    let g = c.form-at-g.result in
+    let f = c.form_at-f.result in
+    let g = c.form_at-g.result in
     record {
       room = c.meet.ensures.room;
       joined = joined_never r e (items c.args.s.now) f g (omega (arith, c.requires.named.0, S.used)) (omega (arith, c.requires.named.1, S.used))
-          (form_read r e.x c.root-of-a.result f f c.root-of-a.ensures c.form-at-f.ensures refl)
-          (form_read r e.y c.root-of-b.result g g c.root-of-b.ensures c.form-at-g.ensures refl)
+          (form_read r e.x c.root_of-a.result f f c.root_of-a.ensures c.form_at-f.ensures refl)
+          (form_read r e.y c.root_of-b.result g g c.root_of-b.ensures c.form_at-g.ensures refl)
           c.if-not-meet.ensures.met;
     }
 
@@ -35,10 +35,10 @@ returns c =
     let met = c.if-not-meet.ensures.met in
     let r = c.args.r.now in
     let t = c.unite.new.r in
-    let a = c.root-of-a.result in
-    let b = c.root-of-b.result in
-    let f = c.form-at-f.result in
-    let g = c.form-at-g.result in
+    let a = c.root_of-a.result in
+    let b = c.root_of-b.result in
+    let f = c.form_at-f.result in
+    let g = c.form_at-g.result in
     let h = c.choose.result in
     let lx : c.args.e.x < 256 = omega (arith, c.requires.named.0, S.used) in
     let ly : c.args.e.y < 256 = omega (arith, c.requires.named.1, S.used) in
@@ -46,9 +46,9 @@ returns c =
       room = c.meet.ensures.room;
       joined = ⊎_elim
           (λ (lt : a < b). joined_up r t S c.args.e (items c.args.s.now) (items c.meet.new.s) lx ly c.requires.pending a b f g h
-          c.root-of-a.ensures c.root-of-b.ensures c.form-at-f.ensures c.form-at-g.ensures c.choose.ensures met.0 met.1 lt (c.unite.ensures.up lt))
+          c.root_of-a.ensures c.root_of-b.ensures c.form_at-f.ensures c.form_at-g.ensures c.choose.ensures met.0 met.1 lt (c.unite.ensures.up lt))
           (λ (ge : b ≤ a). let lt : b < a = omega (arith, c.if-a-b.false) in
           joined_down r t S c.args.e (items c.args.s.now) (items c.meet.new.s) lx ly c.requires.pending a b f g h
-          c.root-of-a.ensures c.root-of-b.ensures c.form-at-f.ensures c.form-at-g.ensures c.choose.ensures met.0 met.1 lt (c.unite.ensures.down lt))
+          c.root_of-a.ensures c.root_of-b.ensures c.form_at-f.ensures c.form_at-g.ensures c.choose.ensures met.0 met.1 lt (c.unite.ensures.down lt))
           (cases_lt a b);
     }

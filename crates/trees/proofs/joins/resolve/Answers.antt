@@ -28,5 +28,5 @@ returns c =
     record {
       shaped = inv.0;
       used = inv.1;
-      left = emptied (Left c.args.r.now (items c.args.s.now)) c.loop-e.r (items c.loop-e.s) c.in-default.ensures.does.value inv.4;
+      left = emptied (Left c.args.r.now (items c.args.s.now)) c.loop-e.r (items c.loop-e.s) c.in_default.ensures.does.value inv.4;
     }

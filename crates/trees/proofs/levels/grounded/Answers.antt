@@ -3,8 +3,8 @@ use Rattle.std.proofs.lemmas.List.{take-replicate}
 use Rattle.trees.proofs.Grounding.{no_marks}
 use Rattle.trees.proofs.levels.grounded.Goals as goal
 
-pub marks-all-requires : goal.marks-all-requires
-marks-all-requires c =
+pub marks_all-requires : goal.marks_all-requires
+marks_all-requires c =
     let r = c.args.r.now in
     let u = r.used in
     let e : u - 0 ≡ u = omega arith in

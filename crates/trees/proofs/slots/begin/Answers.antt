@@ -6,6 +6,6 @@ pub returns : goal.returns
 returns c =
     let slots = c.args.slots.now in
     record {
-      begun = begun_blank slots c.args.head c.requires c.index-slots-head.result c.wipe.new.r c.take-idle.new.slots c.wipe.ensures c.take-idle.ensures.begun;
-      next = c.take-idle.ensures.next ∙ begun_next slots c.args.head c.requires c.index-slots-head.result c.wipe.new.r;
+      begun = begun_blank slots c.args.head c.requires c.index-slots-head.result c.wipe.new.r c.take_idle.new.slots c.wipe.ensures c.take_idle.ensures.begun;
+      next = c.take_idle.ensures.next ∙ begun_next slots c.args.head c.requires c.index-slots-head.result c.wipe.new.r;
     }

@@ -12,8 +12,8 @@ loop-i-preserved c =
     c.put.new.r c.index-slots-to.result c.index-slots-from-in-loop-i.result c.index-slots-from-in-loop-i-2.result
     (omega (arith, c.loop-i-test.true, c.requires.few c.index-slots-from.result)) c.requires.source c.put.ensures
 
-pub invariant-of-slots : goal.invariant-of-slots
-invariant-of-slots c d =
+pub invariant_of-slots : goal.invariant_of-slots
+invariant_of-slots c d =
     let r = (get_or c.loop-i.slots c.args.to d).record in
     (omega (arith, c.requires.target, c.loop-i.auto.slots), (r.wide, (r.full, tt)), tt)
 

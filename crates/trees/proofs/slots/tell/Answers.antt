@@ -23,13 +23,13 @@ returns-in-Some c =
 pub bounds-slots-store-then-spare-eq0 : goal.bounds-slots-store-then-spare-eq0
 bounds-slots-store-then-spare-eq0 c =
     let slots = c.args.slots.now in
-    let same = undecided slots c.args.store c.index-slots-store.result c.decide.new.r c.in-default.ensures in
+    let same = undecided slots c.args.store c.index-slots-store.result c.decide.new.r c.in_default.ensures in
     subst (λ (xs : List (Slot Store)). c.args.store < length xs) (sym same) (live_within slots c.args.store c.requires.live)
 
-pub tell-copied-requires : goal.tell-copied-requires
-tell-copied-requires c =
+pub tell_copied-requires : goal.tell_copied-requires
+tell_copied-requires c =
     let slots = c.args.slots.now in
-    let same = undecided slots c.args.store c.index-slots-store.result c.decide.new.r c.in-default.ensures in
+    let same = undecided slots c.args.store c.index-slots-store.result c.decide.new.r c.in_default.ensures in
     let past = c.index-slots-store-then-spare-eq0.result in
     record { sound = subst (λ (xs : List (Slot Store)). Sound (get_or xs c.args.store past).record) (sym same) (c.requires.sound past); proper = c.requires.proper }
 
@@ -37,16 +37,16 @@ pub returns-then-spare-eq0 : goal.returns-then-spare-eq0
 returns-then-spare-eq0 c =
     let slots = c.args.slots.now in
     let i = c.args.store in
-    let same = undecided slots i c.index-slots-store.result c.decide.new.r c.in-default.ensures in
+    let same = undecided slots i c.index-slots-store.result c.decide.new.r c.in_default.ensures in
     let l = subst (λ (xs : List (Slot Store)). i < length xs) (sym same) (live_within slots i c.requires.live) in
-    told_since slots _ _ i c.args.t c.tell-copied.result same
-    (told_here _ i l c.index-slots-store-then-spare-eq0.result c.tell-copied.new.r c.args.t c.tell-copied.result c.tell-copied.ensures)
+    told_since slots _ _ i c.args.t c.tell_copied.result same
+    (told_here _ i l c.index-slots-store-then-spare-eq0.result c.tell_copied.new.r c.args.t c.tell_copied.result c.tell_copied.ensures)
 
-pub tell-aside-requires : goal.tell-aside-requires
-tell-aside-requires c =
+pub tell_aside-requires : goal.tell_aside-requires
+tell_aside-requires c =
     let slots = c.args.slots.now in
     let i = c.args.store in
-    let same = undecided slots i c.index-slots-store.result c.decide.new.r c.in-default.ensures in
+    let same = undecided slots i c.index-slots-store.result c.decide.new.r c.in_default.ensures in
     let first = c.requires.first (omega (arith, c.if-spare-eq0.false)) in
     record {
       source = subst (λ (xs : List (Slot Store)). i < length xs) (sym same) (live_within slots i c.requires.live);
@@ -60,8 +60,8 @@ pub returns : goal.returns
 returns c =
     let slots = c.args.slots.now in
     let i = c.args.store in
-    let same = undecided slots i c.index-slots-store.result c.decide.new.r c.in-default.ensures in
+    let same = undecided slots i c.index-slots-store.result c.decide.new.r c.in_default.ensures in
     let first = c.requires.first (omega (arith, c.if-spare-eq0.false)) in
-    told_since slots _ c.tell-aside.new.slots i c.args.t c.tell-aside.result same
-    (told_aside _ c.tell-aside.new.slots i c.args.head (subst (λ (xs : List (Slot Store)). c.args.head < length xs) (sym same) first.0)
-    (subst (λ (xs : List (Slot Store)). live_at xs c.args.head ≡ false) (sym same) first.1) c.args.t c.tell-aside.result c.tell-aside.ensures)
+    told_since slots _ c.tell_aside.new.slots i c.args.t c.tell_aside.result same
+    (told_aside _ c.tell_aside.new.slots i c.args.head (subst (λ (xs : List (Slot Store)). c.args.head < length xs) (sym same) first.0)
+    (subst (λ (xs : List (Slot Store)). live_at xs c.args.head ≡ false) (sym same) first.1) c.args.t c.tell_aside.result c.tell_aside.ensures)

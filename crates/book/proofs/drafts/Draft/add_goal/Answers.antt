@@ -7,13 +7,21 @@ use Rattle.book.specs.Reading.{heads}
 use Rattle.book.proofs.Listing.{entries_more, heads_push, sized_more}
 use Rattle.book.proofs.drafts.Draft.add_goal.Goals as goal
 
-pub invariant-of-self : goal.invariant-of-self
-invariant-of-self c =
+pub invariant_of-self : goal.invariant_of-self
+invariant_of-self c =
     let d = c.args.self.now in
     let l : Listed = record { line = c.args.line; scope = c.args.scope } in
     let inside : d.count < length d.listed = omega (arith, d.room, d.all, d.few_rules, c.requires.few) in
     let same : heads (entries d ++ entry_of l ∷ []) ≡ heads (entries d) = heads_push (entries d) (entry_of l) ∙ ap (λ hs. heads (entries d) ++ hs) c.requires.goal ∙ append-nil (heads (entries d)) in
-    (length-set d.listed d.count l ∙ d.room, (d.params_room, (d.few_rules, (omega (arith, c.requires.few), (omega (arith, d.all), (d.headed ∙ sym same ∙ ap heads (sym (entries_more d.listed d.count l inside)), (sized_more d.listed d.count l inside d.sized c.requires.sized, tt)))))))
+    record {
+      room = length-set d.listed d.count l ∙ d.room;
+      params_room = d.params_room;
+      few_rules = d.few_rules;
+      few_goals = omega (arith, c.requires.few);
+      all = omega (arith, d.all);
+      headed = d.headed ∙ sym same ∙ ap heads (sym (entries_more d.listed d.count l inside));
+      sized = sized_more d.listed d.count l inside d.sized c.requires.sized;
+    }
 
 pub returns : goal.returns
 returns c =

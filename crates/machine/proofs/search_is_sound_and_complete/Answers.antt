@@ -1,5 +1,5 @@
 -- The theorems. Assumes nothing.
-use Rattle.machine.proofs.machine_is_sound_and_complete.Goals as goal
+use Rattle.machine.proofs.search_is_sound_and_complete.Goals as goal
 use Rattle.machine.proofs.Rules.{own_rules_fit_lem}
 use Rattle.machine.proofs.Determinism.{deterministic, dated}
 use Rattle.machine.proofs.Completeness.{complete}
@@ -7,4 +7,4 @@ use Rattle.machine.proofs.Soundness.{sound}
 use Rattle.machine.proofs.Progress.{goes_on}
 
 pub returns : goal.returns
-returns c = record { own_rules_fit_lem = own_rules_fit_lem; deterministic = deterministic; complete = complete; sound = sound; dated = dated; goes_on = goes_on }
+returns c = record { own_rules_fit = own_rules_fit_lem; deterministic = deterministic; complete = complete; sound = sound; dated = dated; goes_on = goes_on }
