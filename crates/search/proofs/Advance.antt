@@ -211,7 +211,7 @@ module _ {S : Type 0} (v : View S) (s : Search S) (g : Good v s) (o : s.over ≡
         let c = calm 0 st (next_map _ _ (fresh_quiet v.variables) A h) in
         let n = same_nodes v.kind v.variables s.book (v.meaning s.bank) s.tree A r.stands in
         omega (arith, c.1, n, g.pool);
-    all_used_lem = h;
+    all_used = h;
   }
   barred_of rules A (Stores e) r h =
       let at_or = next_map (λ g n. AtOr g × (adds g ≤ vec_len s.pool)) (λ g n. AtOr g) (λ g n x. x.0) A h.0 in

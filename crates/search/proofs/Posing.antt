@@ -228,6 +228,7 @@ module _ {S : Type 0} (v : View S) (s u : Search S) (g : Good v s) (c : Emptied 
               ]
             ];
           };
+          released = λ z i no. add.others.live z (λ e. no (inl (sym e))) ∙ c.bank.gone z i;
         };
       }
 

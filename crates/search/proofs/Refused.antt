@@ -13,8 +13,8 @@ pub refused_runs :
     {S : Type 0} (v : View S) (s t : Search S) (b : ℕ) (e : Refusal) → RunDoes v s b (Err e) t
     → Same v s t ⊎ ((h : Halt) × (w : Stop) × RunHalted v s b h w t)
 refused_runs v s t b NothingPosed d = inl d.1
-refused_runs v s t b AnswerWaits d = inl d.1
-refused_runs v s t b TooManySteps d = inl d.1
+refused_runs v s t b AnswerWaits d = inl d.2
+refused_runs v s t b TooManySteps d = inl d.3
 refused_runs v s t b (TooManyNodes h) d = inr (h, Nodes, d)
 refused_runs v s t b (NoVariable h) d = inr (h, Variables, d)
 refused_runs v s t b (NoStore h e) d = inr (h, Stores e, d)

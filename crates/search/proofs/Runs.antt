@@ -275,8 +275,8 @@ same_refl v s = same_rebanked v s s.bank unchanged
 -- a run that may not begin changes nothing
 pub not_run : {S : Type 0} (v : View S) (s : Search S) (b : ℕ) (e : Refusal) → MayRun s b (Err e) → RunDoes v s b (Err e) s
 not_run v s b NothingPosed h = (h, same_refl v s)
-not_run v s b AnswerWaits h = (h, same_refl v s)
-not_run v s b TooManySteps h = (h, same_refl v s)
+not_run v s b AnswerWaits h = (h.0, h.1, same_refl v s)
+not_run v s b TooManySteps h = (h.0, h.1, h.2, same_refl v s)
 not_run v s b (TooManyNodes k) h = absurd h
 not_run v s b (NoVariable k) h = absurd h
 not_run v s b (NoStore k e) h = absurd h

@@ -125,6 +125,8 @@ pub record Starts {S : Type 0} (v : View S) (s : Search S) (book : Book) (r : �
   pub stock : t.stock ≡ s.stock
   pub stands : StandsFor v t (meaning book) (rule_at (meaning book) r) (Some (posed (rule_at (meaning book) r))) []
   pub others : Untouched v s t
+  -- what the search held has ended, but for a number that its new store has again
+  pub released : (x : ℕ) → Mine s x → (Mine t x → ⊥) → (v.meaning t.bank).live x ≡ false
 
 pub record NoneKnown {S : Type 0} (v : View S) (book : Book) (r line : ℕ) : Type 0 where
   pub there : r < length (meaning book)
@@ -172,7 +174,7 @@ Roomy K rules T = (o : Option Answer) (S : State) → Step K rules T o S → nod
 
 pub record NoneFresh {S : Type 0} (v : View S) (rules : Rules) (T : MachineTree) : Type 0 where
   pub roomy : Roomy v.kind rules T
-  pub all_used_lem : Next (λ g n. AtFresh v.variables g n) T
+  pub all_used : Next (λ g n. AtFresh v.variables g n) T
 
 pub record NoneForked {S : Type 0} (v : View S) (t : Search S) (rules : Rules) (T : MachineTree) (e : BankRefusal) : Type 0 where
   pub roomy : Roomy v.kind rules T
@@ -274,9 +276,9 @@ StopsBy t k b None = (t.waiting ≡ None) × (t.over ≡ false) × (k ≢ b)
 
 abbrev pub RunDoes : {S : Type 0} → View S → Search S → ℕ → Result Ran Refusal → Search S → Type 0
 RunDoes v s b (Ok r) t = RunMade v s b r t
-RunDoes v s b (Err NothingPosed) t = MayRun s b (Err NothingPosed) × Same v s t
-RunDoes v s b (Err AnswerWaits) t = MayRun s b (Err AnswerWaits) × Same v s t
-RunDoes v s b (Err TooManySteps) t = MayRun s b (Err TooManySteps) × Same v s t
+RunDoes v s b (Err NothingPosed) t = (s.posed ≡ false) × Same v s t
+RunDoes v s b (Err AnswerWaits) t = (s.posed ≡ true) × ((x : Found) × (s.waiting ≡ Some x)) × Same v s t
+RunDoes v s b (Err TooManySteps) t = (s.posed ≡ true) × (s.waiting ≡ None) × (2 ^ 32 ≤ s.steps + b) × Same v s t
 RunDoes v s b (Err (TooManyNodes h)) t = RunHalted v s b h Nodes t
 RunDoes v s b (Err (NoVariable h)) t = RunHalted v s b h Variables t
 RunDoes v s b (Err (NoStore h e)) t = RunHalted v s b h (Stores e) t
