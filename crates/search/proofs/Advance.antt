@@ -18,7 +18,7 @@ use Rattle.bank.specs.Views.{Meaning, View}
 use Rattle.bank.specs.Calls.{Unchanged}
 use Rattle.frontier.specs.Trees.{boxes, leaves, next_goal_lem, In, Apart, Kept, Stands, Left, Answers, Given, Holds, held, Among, standing, AllApart, Elsewhere}
 use Rattle.frontier.specs.Steps.{Ready, Went, Stops, Stayed, Next, adds, AtFresh, AtOr}
-use Rattle.search.specs.Calls.{Mine, Latest, WaitsAs, StandsFor, Good, Untouched, Same, SteppedTo, OneMore, NoMore, Barred, NoneFresh, NoneForked, below, nodes}
+use Rattle.search.specs.Calls.{Mine, Latest, WaitsAs, StandsFor, Good, Untouched, NoneLeft, Same, SteppedTo, OneMore, NoMore, Barred, NoneFresh, NoneForked, below, nodes}
 use Rattle.frontier.proofs.Scopes.{run_fine, ScopedLeft}
 use Rattle.frontier.proofs.Moves.{frame}
 
@@ -86,11 +86,6 @@ module _ {S : Type 0} (v : View S) where
           live = λ z i h. a.others.live z (λ y. i (mine z y)) h;
           solutions = λ z i h σ. a.others.solutions z (λ y. i (mine z y)) h σ;
           theirs = λ z i h y. elim (a.mine z y) [ inl j ↦ i (mine z j) | inr j ↦ both_ways ((v.meaning s.bank).live z) j h ];
-          gone = λ z no h. a.gone z no (elim h [
-            | inl (inl i) ↦ inl (subst (λ (d : Bool). Among d s.tree z) o i)
-            | inl (inr i) ↦ absurd (subst (λ (y : Option Found). Holds y z) w i)
-            | inr i ↦ inr i
-          ]);
         };
         stands = on;
       }
@@ -112,6 +107,24 @@ module _ {S : Type 0} (v : View S) where
             };
             answer = c.answer;
           }
+
+  -- what the step let go has ended
+  pub none_left :
+      (s : Search S) (b : S) (t : Tree) (p : Vec (Box Tree Global) Global) (x : Option Found) (d : Bool)
+      → Good v s → s.posed ≡ true → s.over ≡ false → s.waiting ≡ None
+      → ((rules : Rules) (A : MachineTree) → Ready v.kind v.variables s.book rules (v.meaning s.bank) s.tree A → Went v.kind v.variables s.book rules (v.meaning s.bank) (v.meaning b) s.tree t A x d)
+      → NoneLeft v s (after s b t p x d)
+  none_left s b t p x d g posed o w went =
+      let q = g.going posed in
+      let k = going s g o q.0 q.1 q.2 q.3 q.4 in
+      let a = went q.0 k.here k.ready in
+      record {
+        gone = λ z no h. a.gone z no (elim h [
+          | inl (inl i) ↦ inl (subst (λ (d : Bool). Among d s.tree z) o i)
+          | inl (inr i) ↦ absurd (subst (λ (y : Option Found). Holds y z) w i)
+          | inr i ↦ inr i
+        ]);
+      }
 
 -- a step that adds nodes gives no answer, and how many nodes it leaves
 crowd :

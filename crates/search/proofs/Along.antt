@@ -8,7 +8,7 @@ use Rattle.bank.specs.Kinds.{Kind, Assignment}
 use Rattle.book.specs.Language.{Goal, Rule, Rules}
 use Rattle.machine.specs.Machine.{Answer, State, Tree as MachineTree, Entry}
 use Rattle.bank.specs.Views.{Meaning, View}
-use Rattle.search.specs.Calls.{Mine, StandsFor, Good, Untouched}
+use Rattle.search.specs.Calls.{Mine, StandsFor, Good, Untouched, NoneLeft}
 use Rattle.frontier.specs.Trees.{Answers}
 
 -- The answers since a run began: none, or that which waits.
@@ -40,16 +40,24 @@ pub record Along {S : Type 0} (v : View S) (s t : Search S) (k b : ℕ) : Type 0
   pub book : t.book ≡ s.book
   pub stock : t.stock ≡ s.stock
   pub others : Untouched v s t
+  pub none_left : NoneLeft v s t
   pub stands : (rules : Rules) (rule : Rule) (T : State) (es : List Entry) → StandsFor v s rules rule T es → Gone v t rules rule es k
 
 pub untouched_same : {S : Type 0} (v : View S) (s : Search S) → Untouched v s s
-untouched_same v s = record { live = λ x n h. h; solutions = λ x n h σ. refl; theirs = λ x n h m. n m; gone = λ x n h. elim h [ inl m ↦ absurd (n m) | inr d ↦ d ] }
+untouched_same v s = record { live = λ x n h. h; solutions = λ x n h σ. refl; theirs = λ x n h m. n m }
+
+pub none_left_same : {S : Type 0} (v : View S) (s : Search S) → NoneLeft v s s
+none_left_same v s = record { gone = λ x n h. elim h [ inl m ↦ absurd (n m) | inr d ↦ d ] }
 
 pub untouched_on : {S : Type 0} (v : View S) (s t u : Search S) → Untouched v s t → Untouched v t u → Untouched v s u
 untouched_on v s t u a b = record {
   live = λ x n h. b.live x (a.theirs x n h) (a.live x n h);
   solutions = λ x n h σ. b.solutions x (a.theirs x n h) (a.live x n h) σ ∙ a.solutions x n h σ;
   theirs = λ x n h. b.theirs x (a.theirs x n h) (a.live x n h);
+}
+
+pub none_left_on : {S : Type 0} (v : View S) (s t u : Search S) → NoneLeft v s t → NoneLeft v t u → NoneLeft v s u
+none_left_on v s t u a b = record {
   gone = λ x n h. elim (cases_Bool ((v.meaning u.bank).live x)) [
     | inl alive ↦ b.gone x n (inr (a.gone x (λ i. both_ways ((v.meaning u.bank).live x) (b.gone x n (inl i)) alive) h))
     | inr dead ↦ dead
@@ -68,6 +76,7 @@ begins v s b g p w n = record {
   book = refl;
   stock = refl;
   others = untouched_same v s;
+  none_left = none_left_same v s;
   stands = λ rules rule T es sf. record {
     state = T;
     entries = es;

@@ -1,6 +1,5 @@
 -- Stores that were live before new are never touched. Assumes nothing.
 use Rattle.std.proofs.Common.{◌≡◌, ℕ, Bool, true, ◌⊎◌, Ok, Err, Option, sym, refl, ap, ◌∙◌, subst, inl, inr}
-use Rattle.std.proofs.lemmas.Bool.{both_ways, cases_Bool}
 use Rattle.frontier.specs.declared.tree.Found.{Found}
 use Rattle.search.specs.declared.Search.{Search}
 use Rattle.bank.specs.Views.{Meaning, View}
@@ -17,10 +16,6 @@ module _ {S : Type 0} (v : View S) (bank : S) where
     live = λ x h. b.live x (a.theirs x h) (a.live x h);
     solutions = λ x h σ. b.solutions x (a.theirs x h) (a.live x h) σ ∙ a.solutions x h σ;
     theirs = λ x h. b.theirs x (a.theirs x h) (a.live x h);
-    no_other = λ x h no. elim (cases_Bool ((v.meaning t.bank).live x)) [
-      | inl alive ↦ b.gone x no (inr (a.no_other x h (λ i. both_ways ((v.meaning t.bank).live x) (b.gone x no (inl i)) alive)))
-      | inr dead ↦ dead
-    ];
   }
 
   pub untouched : {s : Search S} → History v bank s → Untouched v bank s
@@ -31,7 +26,6 @@ module _ {S : Type 0} (v : View S) (bank : S) where
       | inl i ↦ subst (λ (e : Bool). Among e t.tree x) d.over i
       | inr i ↦ subst (λ (y : Option Found). Holds y x) d.empty i
     ];
-    no_other = λ x h no. ap (λ (b : S). (v.meaning b).live x) d.bank_is ∙ h;
   }
   untouched (posed {s} {t} h book r (Ok u) d) = on s t (untouched h) d.others
   untouched (posed {s} {t} h book r (Err e) d) = on s t (untouched h) (same_untouched v s t d.1)

@@ -24,7 +24,7 @@ use Rattle.frontier.specs.declared.tree.Frame.{Frame as FrameOf}
 use Rattle.frontier.specs.declared.tree.Tree.{Tree}
 use Rattle.frontier.specs.declared.tree.Tree.TheVariants.{Leaf, Branch', Chain'}
 use Rattle.frontier.specs.Books.{Known, Reads}
-use Rattle.search.specs.Calls.{Mine, Latest, WaitsAs, StandsFor, Good, Untouched, Same, Takes, Starts, PoseRefused, Emptied}
+use Rattle.search.specs.Calls.{Mine, Latest, WaitsAs, StandsFor, Good, Untouched, NoneLeft, Same, Takes, Starts, PoseRefused, Emptied}
 use Rattle.frontier.specs.Frames.{list_of, Sized}
 use Rattle.frontier.specs.Trees.{boxes, leaves, In, Apart, Kept, Stands, Left, Answers, Given, Holds, held, Among, standing, AllApart, Elsewhere, Cleared}
 use Rattle.frontier.proofs.Moves.{frame, stands_live}
@@ -50,6 +50,7 @@ taken_of s b = record { bank = b; book = s.book; params = s.params; tree = s.tre
 pub record Took {S : Type 0} (v : View S) (s t : Search S) : Type 0 where
   pub good : Good v t
   pub does : Takes v s t
+  pub none_left : NoneLeft v s t
 
 -- A rule of a book that the bank knows.
 pub record Asked (K : Kind) (book : Book) (r : ℕ) (q : RuleOf) : Type 0 where
@@ -76,6 +77,7 @@ begun u b book p i f n st = record {
 pub record Posed {S : Type 0} (v : View S) (s t : Search S) (book : Book) (r : ℕ) : Type 0 where
   pub good : Good v t
   pub does : Starts v s book r t
+  pub none_left : NoneLeft v s t
 
 pub record Unposed {S : Type 0} (v : View S) (s t : Search S) (book : Book) (r : ℕ) (e : BankRefusal) : Type 0 where
   pub good : Good v t
@@ -155,12 +157,14 @@ module _ {S : Type 0} (v : View S) (s : Search S) (g : Good v s) where
             live = λ z i h. (released_else x.store r).live z (λ y. i (mine z y)) h;
             solutions = λ z i h σ. (released_else x.store r).solutions z (λ y. i (mine z y)) h σ;
             theirs = λ z i h y. elim y [ inl j ↦ i (inl j) | inr j ↦ j ];
-            gone = λ z no h. elim h [
-              | inl (inl i) ↦ absurd (no (inl i))
-              | inl (inr i) ↦ sym (ap n.live (subst (λ (y : Option Found). Holds y z) w i)) ∙ r.is
-              | inr i ↦ r.others.live z (λ e. both_ways ((v.meaning s.bank).live z) i (ap (v.meaning s.bank).live e ∙ r.was)) ∙ i
-            ];
           };
+        };
+        none_left = record {
+          gone = λ z no h. elim h [
+            | inl (inl i) ↦ absurd (no (inl i))
+            | inl (inr i) ↦ sym (ap n.live (subst (λ (y : Option Found). Holds y z) w i)) ∙ r.is
+            | inr i ↦ r.others.live z (λ e. both_ways ((v.meaning s.bank).live z) i (ap (v.meaning s.bank).live e ∙ r.was)) ∙ i
+          ];
         };
       }
 
@@ -220,15 +224,17 @@ module _ {S : Type 0} (v : View S) (s u : Search S) (g : Good v s) (c : Emptied 
               | inl j ↦ apart_from z (c.bank.live z i ∙ h) (sym j)
               | inr j ↦ subst (λ (y : Option Found). Holds y z) c.waiting j
             ];
-            gone = λ z no h. add.others.live z (λ e. no (inl (sym e))) ∙ elim h [
-              | inl i ↦ c.bank.gone z i
-              | inr i ↦ elim (cases_Bool (mid.live z)) [
-                | inl alive ↦ c.bank.live z (λ j. both_ways (mid.live z) (c.bank.gone z j) alive) ∙ i
-                | inr dead ↦ dead
-              ]
-            ];
           };
           released = λ z i no. add.others.live z (λ e. no (inl (sym e))) ∙ c.bank.gone z i;
+        };
+        none_left = record {
+          gone = λ z no h. add.others.live z (λ e. no (inl (sym e))) ∙ elim h [
+            | inl i ↦ c.bank.gone z i
+            | inr i ↦ elim (cases_Bool (mid.live z)) [
+              | inl alive ↦ c.bank.live z (λ j. both_ways (mid.live z) (c.bank.gone z j) alive) ∙ i
+              | inr dead ↦ dead
+            ]
+          ];
         };
       }
 

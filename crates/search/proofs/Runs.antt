@@ -18,11 +18,11 @@ use Rattle.bank.specs.Views.{Meaning, View}
 use Rattle.bank.specs.Calls.{Unchanged}
 use Rattle.frontier.specs.Books.{Copies}
 use Rattle.frontier.specs.Trees.{boxes, Kept, Stands, Left, Answers, Given, Holds, held, Among, standing, AllApart, Elsewhere}
-use Rattle.search.specs.Calls.{Mine, Latest, WaitsAs, StandsFor, Good, Untouched, Same, SteppedTo, OneMore, NoMore, Barred, NoneForked, Runs, RunHalted, MayRun, StopsBy, RunDoes, halt_at}
+use Rattle.search.specs.Calls.{Mine, Latest, WaitsAs, StandsFor, Good, Untouched, NoneLeft, Same, SteppedTo, OneMore, NoMore, Barred, NoneForked, Runs, RunHalted, MayRun, StopsBy, RunDoes, halt_at}
 use Rattle.search.specs.Refusals.{halted}
 use Rattle.frontier.proofs.Leaf.{unchanged}
 use Rattle.frontier.proofs.Moves.{frame, nothing_left, some_left}
-use Rattle.search.proofs.Along.{Along, Since, untouched_on}
+use Rattle.search.proofs.Along.{Along, Since, untouched_on, none_left_on}
 
 nowhere : {m n : Meaning} → Unchanged m n → Elsewhere m n (λ x. ⊥)
 nowhere u = record { live = λ x i h. u.live x ∙ h; solutions = λ x i h σ. u.solutions x h σ }
@@ -103,8 +103,10 @@ module _ {S : Type 0} (v : View S) (s t : Search S) (e : Same v s t) where
     live = λ x i h. e.bank.live x ∙ h;
     solutions = λ x i h σ. e.bank.solutions x h σ;
     theirs = λ x i h y. i (elim y [ inl j ↦ inl (among x j) | inr j ↦ inr (holds x j) ]);
-    gone = λ x no h. e.bank.live x ∙ elim h [ inl i ↦ absurd (no (mine x i)) | inr i ↦ i ];
   }
+
+  pub same_none_left : NoneLeft v s t
+  same_none_left = record { gone = λ x no h. e.bank.live x ∙ elim h [ inl i ↦ absurd (no (mine x i)) | inr i ↦ i ] }
 
   same_barred : (rules : Rules) (A : MachineTree) (w : Stop) → Barred v s rules A w → Barred v t rules A w
   same_barred rules A Nodes h = h
@@ -221,8 +223,8 @@ module _ {S : Type 0} (v : View S) (s t u : Search S) (k b : ℕ) (a : Along v s
   since_step es (Some x) None h = absurd h
   since_step es (Some x) (Some y) h = record { stepped = omega arith; answer = y; latest = refl; stands = h }
 
-  pub along_on : OneMore v t u → Along v s u (k + 1) b
-  along_on o = record {
+  pub along_on : OneMore v t u → NoneLeft v t u → Along v s u (k + 1) b
+  along_on o n = record {
     was_posed = a.was_posed;
     none_waited = a.none_waited;
     near = a.near;
@@ -233,10 +235,11 @@ module _ {S : Type 0} (v : View S) (s t u : Search S) (k b : ℕ) (a : Along v s
     book = o.book ∙ a.book;
     stock = o.stock ∙ a.stock;
     others = untouched_on v s t u a.others o.others;
+    none_left = none_left_on v s t u a.none_left n;
     stands = λ rules rule T es sf.
         let i = a.stands rules rule T es sf in
-        let n = o.stands rules rule i.state es (subst (λ (fs : List Entry). StandsFor v t rules rule i.state fs) (none_came v s t k b a w rules rule T es sf) i.stands) in
-        record { state = n.state; entries = noted es u.steps n.given; stands = n.stands; since = since_step es u.waiting n.given n.answer };
+        let m = o.stands rules rule i.state es (subst (λ (fs : List Entry). StandsFor v t rules rule i.state fs) (none_came v s t k b a w rules rule T es sf) i.stands) in
+        record { state = m.state; entries = noted es u.steps m.given; stands = m.stands; since = since_step es u.waiting m.given m.answer };
   }
 
 -- another bank

@@ -4,7 +4,8 @@
 --   WaitsAs     the answer that waits, if any, is the latest
 --   StandsFor   after its steps since the pose the search stands for the machine's state, with these answers
 --   Good        what new gives, and each call needs and keeps
---   Untouched   live stores that are not the search's are as they were, and not the search's; and no other store is live
+--   Untouched   live stores that are not the search's are as they were, and not the search's
+--   NoneLeft    what left the search has ended, and no store is new but the search's
 --   Same        the search is as it was
 --   NewDoes, PoseDoes, RunDoes, WriteDoes, TakeDoes
 --               the calls, by their answers
@@ -86,7 +87,9 @@ pub record Untouched {S : Type 0} (v : View S) (s t : Search S) : Type 0 where
       (x : ℕ) → (Mine s x → ⊥) → (v.meaning s.bank).live x ≡ true
       → (σ : Assignment) → (v.meaning t.bank).solutions x σ ≡ (v.meaning s.bank).solutions x σ
   pub theirs : (x : ℕ) → (Mine s x → ⊥) → (v.meaning s.bank).live x ≡ true → Mine t x → ⊥
-  -- what was the search's has ended, unless it is so still, and no store is new but the search's
+
+-- what was the search's has ended, unless it is so still, and no store is new but the search's
+pub record NoneLeft {S : Type 0} (v : View S) (s t : Search S) : Type 0 where
   pub gone : (x : ℕ) → (Mine t x → ⊥) → Mine s x ⊎ ((v.meaning s.bank).live x ≡ false) → (v.meaning t.bank).live x ≡ false
 
 pub record Same {S : Type 0} (v : View S) (s t : Search S) : Type 0 where
@@ -109,7 +112,6 @@ pub record Made {S : Type 0} (v : View S) (bank : S) (t : Search S) : Type 0 whe
   pub nothing : t.posed ≡ false
   pub over : t.over ≡ true
   pub empty : t.waiting ≡ None
-  pub steps : t.steps ≡ 0
 
 abbrev pub NewDoes : {S : Type 0} → View S → S → Result (Search S) (NoMemory S) → Type 0
 NewDoes v bank (Ok t) = Made v bank t
@@ -124,9 +126,9 @@ pub record Starts {S : Type 0} (v : View S) (s : Search S) (book : Book) (r : �
   pub empty : t.waiting ≡ None
   pub stock : t.stock ≡ s.stock
   pub stands : StandsFor v t (meaning book) (rule_at (meaning book) r) (Some (posed (rule_at (meaning book) r))) []
-  pub others : Untouched v s t
   -- what the search held has ended, but for a number that its new store has again
   pub released : (x : ℕ) → Mine s x → (Mine t x → ⊥) → (v.meaning t.bank).live x ≡ false
+  pub others : Untouched v s t
 
 pub record NoneKnown {S : Type 0} (v : View S) (book : Book) (r line : ℕ) : Type 0 where
   pub there : r < length (meaning book)

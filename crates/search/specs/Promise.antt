@@ -8,12 +8,12 @@
 --   Shown          values are those of a derivation with the choices of the answer at step t
 --   Sound          the values of each solution of an answer are shown
 --   Waits          the answer that waits is the latest, and its store has its solutions still
---   Untouched      a store that was live before new is live, has its solutions, and is not the search's; every other is the search's
+--   Untouched      a store that was live before new is live, has its solutions, and is not the search's
 --   Promised       all of this, of two histories
 --   Promise        so for any histories of the two over banks of one kind that last posed the same rule of equal books
 --
 -- Solutions are read on the variables 0 to p - 1, where p is how many parameters the rule has.
-use Rattle.std.specs.Prelude.{◌≡◌, ℕ, ◌≤◌, min, Bool, true, false, cond, ◌⊎◌, List, [], ◌∷◌, ◌++◌, Some, nat_le}
+use Rattle.std.specs.Prelude.{◌≡◌, ℕ, ◌≤◌, min, Bool, true, cond, ◌⊎◌, List, [], ◌∷◌, ◌++◌, Some, nat_le}
 use Rattle.bank.specs.Kinds.{Value, Kind, Assignment}
 use Rattle.bank.specs.Views.{View}
 use Rattle.book.specs.Language.{Each}
@@ -81,7 +81,6 @@ pub record Untouched {S : Type 0} (v : View S) (bank : S) (s : Search S) : Type 
   pub live : (x : ℕ) → (v.meaning bank).live x ≡ true → (v.meaning s.bank).live x ≡ true
   pub solutions : (x : ℕ) → (v.meaning bank).live x ≡ true → (σ : Assignment) → (v.meaning s.bank).solutions x σ ≡ (v.meaning bank).solutions x σ
   pub theirs : (x : ℕ) → (v.meaning bank).live x ≡ true → Mine s x → ⊥
-  pub no_other : (x : ℕ) → (v.meaning bank).live x ≡ false → (Mine s x → ⊥) → (v.meaning s.bank).live x ≡ false
 
 module _ {A B : Type 0} {v : View A} {w : View B} {a : A} {b : B} {s : Search A} {t : Search B} where
   pub record Promised (h : History v a s) (k : History w b t) (q : Subject) : Type 0 where

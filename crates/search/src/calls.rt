@@ -4,7 +4,7 @@ ghost use Rattle.bank.specs.Kinds.{takes};
 ghost use Rattle.book.specs.Meaning.{book_nodes};
 ghost use Rattle.frontier.specs.Books.{known};
 ghost use Rattle.search.specs.Unknowns.{first_line, FirstUnknown};
-ghost use Rattle.search.specs.Calls.{Good, NewDoes, PoseDoes, WriteDoes, TakeDoes, Emptied};
+ghost use Rattle.search.specs.Calls.{Good, NoneLeft, NewDoes, PoseDoes, WriteDoes, TakeDoes, Emptied};
 
 use super::refusal::Refusal;
 use super::{NoMemory, Search};
@@ -70,6 +70,7 @@ impl<B: Bank> Search<B> {
     pub fn new(heap: Global, bank: B) -> Result<Search<B>, NoMemory<B>>
         ensures good { IfOk result (λ t. Good B.Bank.view t) }
         ensures does { NewDoes B.Bank.view bank result }
+        ensures fresh { IfOk result (λ t. t.steps ≡ 0) }
     {
         let stock = stock_of(&bank);
         match boxes_made(heap) {
@@ -109,6 +110,7 @@ impl<B: Bank> Search<B> {
         requires { Good B.Bank.view self.old }
         ensures good { Good B.Bank.view self.new }
         ensures does { PoseDoes B.Bank.view self.old book.now rule result self.new }
+        ensures none_left { NoneLeft B.Bank.view self.old self.new }
     {
         if rule >= book.rule_count() {
             return Err(Refusal::NoSuchRule);
@@ -158,6 +160,7 @@ impl<B: Bank> Search<B> {
         requires { Good B.Bank.view self.old }
         ensures good { Good B.Bank.view self.new }
         ensures does { TakeDoes B.Bank.view self.old result self.new }
+        ensures none_left { NoneLeft B.Bank.view self.old self.new }
     {
         if !self.posed {
             return Err(Refusal::NothingPosed);

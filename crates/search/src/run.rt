@@ -1,6 +1,6 @@
 // Running a search.
 ghost use Rattle.std.specs.Prelude.{◌≡◌, ◌+◌, ◌^◌, ◌<◌, true, false, None};
-ghost use Rattle.search.specs.Calls.{Good, AdvanceDoes, MayRun, StopsBy, RunDoes, halt_at};
+ghost use Rattle.search.specs.Calls.{Good, NoneLeft, AdvanceDoes, MayRun, StopsBy, RunDoes, halt_at};
 
 use super::refusal::{Halt, Refusal};
 use super::{Outcome, Ran, Search};
@@ -15,7 +15,8 @@ impl<B: Bank> Search<B> {
         requires going { self.old.over ≡ false }
         requires empty { self.old.waiting ≡ None }
         requires near { self.old.steps + 1 < 2 ^ 32 }
-        ensures { AdvanceDoes B.Bank.view self.old result self.new }
+        ensures does { AdvanceDoes B.Bank.view self.old result self.new }
+        ensures none_left { NoneLeft B.Bank.view self.old self.new }
     {
         match step(&self.book, &mut self.bank, &mut self.pool, &mut self.tree) {
             Err(e) => Err(e),
@@ -91,6 +92,7 @@ impl<B: Bank> Search<B> {
         requires { Good B.Bank.view self.old }
         ensures good { Good B.Bank.view self.new }
         ensures does { RunDoes B.Bank.view self.old budget result self.new }
+        ensures none_left { NoneLeft B.Bank.view self.old self.new }
     {
         self.check_run(budget)?;
         let mut steps = 0;

@@ -2,6 +2,7 @@
 use Rattle.std.proofs.Common.{◌≡◌, sym, refl, ap, ◌∙◌, arith}
 use Rattle.std.proofs.lemmas.Result.{err_from_is_err_and}
 use Rattle.search.proofs.Posing.{Asked, posing, not_posing}
+use Rattle.search.proofs.Runs.{same_none_left}
 use Rattle.search.proofs.Search.pose.Goals as goal
 
 pub returns-in_err-store : goal.returns-in_err-store
@@ -16,7 +17,7 @@ returns-in_err-store g c =
     } in
     let k = not_posing g.B.Bank.view c.args.self.now c.empty.new.self c.requires c.empty.ensures c.open.new.self c.args.book.now c.args.rule c.rule-asked.result
     c.in_err-store.field-0.0 a c.in_err-store.ensures in
-    rw (p.1, p.2) record { good = k.good; does = (k.refused, k.same) }
+    rw (p.1, p.2) record { good = k.good; does = (k.refused, k.same); none_left = same_none_left g.B.Bank.view c.args.self.now _ k.same }
 
 pub returns : goal.returns
 returns g c =
@@ -29,4 +30,4 @@ returns g c =
     } in
     let k = posing g.B.Bank.view c.args.self.now c.empty.new.self c.requires c.empty.ensures c.open.new.self c.args.book.now c.args.rule c.rule-asked.result
     c.first-frame.result c.in_ok-store.store a c.first-frame.ensures.sized c.first-frame.ensures.is c.in_ok-store.ensures in
-    record { good = k.good; does = k.does }
+    record { good = k.good; does = k.does; none_left = k.none_left }
