@@ -139,9 +139,9 @@ module _ (d : Draft) where
   pub built_start : (table : Table) (rules : List Rule) (roots : Stack ℕ) → nodes table ≡ [] → length rules ≡ 64 → items roots ≡ [] → room roots ≡ 1024 → Built d d.count table rules d.rules roots
   built_start table rules roots n l i r =
       let none = drop_all d.count (entries d) (omega (arith, entries_long)) in
-      let no-rules = drop_all d.rules (take d.rules rules) (omega (arith, length-take-le d.rules rules (omega (arith, d.few_rules)))) in
+      let no_rules = drop_all d.rules (take d.rules rules) (omega (arith, length-take-le d.rules rules (omega (arith, d.few_rules)))) in
       record {
-        grown = subst (λ es. Grown (heads (entries d)) (d.count + 1) (d.count + 1) es (nodes table) (drop d.rules (take d.rules rules)) (items roots)) (sym none) (subst (λ ns. Grown (heads (entries d)) (d.count + 1) (d.count + 1) [] ns (drop d.rules (take d.rules rules)) (items roots)) (sym n) (subst (λ rs. Grown (heads (entries d)) (d.count + 1) (d.count + 1) [] [] rs (items roots)) (sym no-rules) (subst (λ is. Grown (heads (entries d)) (d.count + 1) (d.count + 1) [] [] [] is) (sym i) (grown_none (heads (entries d)) (d.count + 1)))));
+        grown = subst (λ es. Grown (heads (entries d)) (d.count + 1) (d.count + 1) es (nodes table) (drop d.rules (take d.rules rules)) (items roots)) (sym none) (subst (λ ns. Grown (heads (entries d)) (d.count + 1) (d.count + 1) [] ns (drop d.rules (take d.rules rules)) (items roots)) (sym n) (subst (λ rs. Grown (heads (entries d)) (d.count + 1) (d.count + 1) [] [] rs (items roots)) (sym no_rules) (subst (λ is. Grown (heads (entries d)) (d.count + 1) (d.count + 1) [] [] [] is) (sym i) (grown_none (heads (entries d)) (d.count + 1)))));
         size = l;
         slots = r;
         left = (let z = ap (λ es. length (heads es)) none in omega arith);

@@ -141,9 +141,9 @@ module _ {K : Kind} {V : ℕ} {book : Book} {rules : Rules} {m n : Meaning} wher
       let k = at_branch a b T r in
       let s = sub k.A k.first in
       let none_left = nothing_left K V book n u s.rest s.left in
-      let b-live = stands_live K V book m b.value k.B k.second.stands in
+      let b_live = stands_live K V book m b.value k.B k.second.stands in
       let off : (z : ℕ) → In b.value z → In a.value z ⊎ (m.live z ≡ false) → ⊥ = λ z i h.
-      elim h [ inl j ↦ k.apart z j i | inr j ↦ both_ways (m.live z) j (b-live z i) ] in
+      elim h [ inl j ↦ k.apart z j i | inr j ↦ both_ways (m.live z) j (b_live z i) ] in
       subst (λ (S : MachineTree). Went K V book rules m n (Branch a b) w S x false) k.is
       (record {
         given = s.given;
@@ -174,9 +174,9 @@ module _ {K : Kind} {V : ℕ} {book : Book} {rules : Rules} {m n : Meaning} wher
       let k = at_branch a b T r in
       let s = sub k.A k.first in
       let go = some_left K V book n u s.rest s.left in
-      let b-live = stands_live K V book m b.value k.B k.second.stands in
+      let b_live = stands_live K V book m b.value k.B k.second.stands in
       let off : (z : ℕ) → In b.value z → In a.value z ⊎ (m.live z ≡ false) → ⊥ = λ z i h.
-      elim h [ inl j ↦ k.apart z j i | inr j ↦ both_ways (m.live z) j (b-live z i) ] in
+      elim h [ inl j ↦ k.apart z j i | inr j ↦ both_ways (m.live z) j (b_live z i) ] in
       let in_p : (z : ℕ) → In p.value z → In b.value z = λ z i. subst (λ (w : Tree). In w z) e i in
       let in_q : (z : ℕ) → In q.value z → In u z = λ z i. subst (λ (w : Tree). In w z) f i in
       let ours : (z : ℕ) → In a.value z ⊎ (m.live z ≡ false) → (In a.value z ⊎ In b.value z) ⊎ (m.live z ≡ false) = λ z h. elim h [ inl j ↦ inl (inl j) | inr j ↦ inr j ] in

@@ -15,7 +15,7 @@ step_once :
 step_once (step_tell_lem σ h) (step_tell_lem σ' h') = (refl, refl)
 step_once (step_tell_lem σ h) (step_fail no_one) = absurd (no_one σ h)
 step_once (step_fail no_one) (step_tell_lem σ h) = absurd (no_one σ h)
-step_once (step_fail no_one) (step_fail no-one') = (refl, refl)
+step_once (step_fail no_one) (step_fail no_one') = (refl, refl)
 step_once step_conj step_conj = (refl, refl)
 step_once step_disj step_disj = (refl, refl)
 step_once step_fresh step_fresh = (refl, refl)

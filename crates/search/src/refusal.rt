@@ -1,7 +1,7 @@
 // Why a search did not do what it was asked.
 ghost use Rattle.std.specs.Prelude.{◌≡◌};
 ghost use Rattle.search.specs.Refusals.{number, halted};
-ghost use Rattle.search.specs.declared.refusal.Refusal.TheVariants.{NoStock as no-stock, LineTooLong as line-too-long};
+ghost use Rattle.search.specs.declared.refusal.Refusal.TheVariants.{NoStock as no_stock, LineTooLong as line_too_long};
 
 use answer_line::Overlong;
 use bank::Refusal as BankRefusal;
@@ -34,7 +34,7 @@ pub enum Refusal {
 }
 
 impl From<BankRefusal> for Refusal {
-    ghost from_gives = { λ e r. r ≡ no-stock e };
+    ghost from_gives = { λ e r. r ≡ no_stock e };
 
     fn from(e: BankRefusal) -> Refusal {
         Refusal::NoStock(e)
@@ -42,7 +42,7 @@ impl From<BankRefusal> for Refusal {
 }
 
 impl From<Overlong> for Refusal {
-    ghost from_gives = { λ e r. r ≡ line-too-long e };
+    ghost from_gives = { λ e r. r ≡ line_too_long e };
 
     fn from(e: Overlong) -> Refusal {
         Refusal::LineTooLong(e)

@@ -7,7 +7,7 @@ use Rattle.book.specs.declared.refusal.Cause.TheVariants.{TextEnds}
 use Rattle.book.specs.Language.{tell, disj, fresh, call, Rules}
 use Rattle.book.specs.Reading.{reading, book}
 use Rattle.book.proofs.Law.{reads_only}
-use Rattle.machine.specs.Examples.{both_ways as both-ways-rules, again as again-rules}
+use Rattle.machine.specs.Examples.{both_ways as both_ways_rules, again as again_rules}
 use Rattle.worked.specs.Rows.{Reads, Refused, ReadAlike}
 use Rattle.worked.specs.Table.{two_ways, two_ways_bare, two_ways_cut, both_ways, again, inside, fifth, idle}
 
@@ -31,13 +31,13 @@ pub two_ways_reads : Reads two_ways two_ways_rules
 unfolding digits as_number as_negative as_signed
 two_ways_reads = as_book two_ways two_ways_rules refl
 
-pub both_ways_reads : Reads both_ways both-ways-rules
+pub both_ways_reads : Reads both_ways both_ways_rules
 unfolding digits as_number as_negative as_signed
-both_ways_reads = as_book both_ways both-ways-rules refl
+both_ways_reads = as_book both_ways both_ways_rules refl
 
-pub again_reads : Reads again again-rules
+pub again_reads : Reads again again_rules
 unfolding digits as_number as_negative as_signed
-again_reads = as_book again again-rules refl
+again_reads = as_book again again_rules refl
 
 pub inside_reads : Reads inside inside_rules
 unfolding digits as_number as_negative as_signed

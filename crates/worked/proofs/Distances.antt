@@ -4,14 +4,14 @@ use Rattle.std.proofs.lemmas.Bool.{and_parts, and_from}
 use Rattle.bank.specs.Kinds.{number, Condition, Assignment, all_admitted, all_hold, holds_at}
 use Rattle.semitones.specs.Whole.{whole, number_of}
 use Rattle.semitones.specs.laws.Solves.{eq_z_true, eq_eq_z, admitted_from}
-use Rattle.worked.specs.Rows.{over-semitones, stored}
+use Rattle.worked.specs.Rows.{over_semitones, stored}
 use Rattle.worked.specs.Table.{above}
 
-pub held : (told : List Condition) (σ : Assignment) → stored over-semitones told σ ≡ true → all_hold whole told σ ≡ true
+pub held : (told : List Condition) (σ : Assignment) → stored over_semitones told σ ≡ true → all_hold whole told σ ≡ true
 held told σ e = (and_parts (all_admitted whole 256 σ) (all_hold whole told σ) e).1
 
 -- numbers at which the constraints hold are a solution
-pub solved : (told : List Condition) (place : ℕ → ℤ) → all_hold whole told (λ v. number (place v)) ≡ true → stored over-semitones told (λ v. number (place v)) ≡ true
+pub solved : (told : List Condition) (place : ℕ → ℤ) → all_hold whole told (λ v. number (place v)) ≡ true → stored over_semitones told (λ v. number (place v)) ≡ true
 solved told place e =
     let σ : Assignment = λ v. number (place v) in
     and_from (all_admitted whole 256 σ) (all_hold whole told σ) (admitted_from σ 256 (λ v l. refl)) e

@@ -8,7 +8,7 @@ use Rattle.bank.specs.Kinds.{number, Condition, Assignment, Solutions, holds_at}
 use Rattle.semitones.specs.Whole.{whole, number_of}
 use Rattle.semitones.specs.Cells.{apart}
 use Rattle.semitones.specs.Says.{Is, Lies, Says, a_name}
-use Rattle.worked.specs.Rows.{over-semitones, stored, LineIs}
+use Rattle.worked.specs.Rows.{over_semitones, stored, LineIs}
 use Rattle.worked.specs.Table.{above}
 use Rattle.worked.proofs.Distances.{held, solved, first_held, lies_above, above_holds}
 
@@ -16,7 +16,7 @@ abbrev told : List Condition
 told = above 1 0 7 ∷ []
 
 abbrev s : Solutions
-s = stored over-semitones told
+s = stored over_semitones told
 
 -- the lowest variable at one distance from x, and how far x lies above it
 abbrev root : ℕ → ℕ
@@ -75,6 +75,6 @@ not_one x z is =
 says : (x : ℕ) → x < 256 → Says s x (texts x)
 says x l = a_name (root x) (pos (by x)) (root_low x) (lies x) (lowest x) (not_one x) refl
 
-pub fifth_line : LineIs over-semitones 2 told "_0,_0+7"
+pub fifth_line : LineIs over_semitones 2 told "_0,_0+7"
 unfolding digits
 fifth_line = record { text = texts; says = says; joins = refl }

@@ -8,10 +8,10 @@ use Rattle.bank.specs.declared.Refusal.{Refusal}
 use Rattle.bank.specs.declared.Refusal.TheVariants.{NotLive, NoSpare, BadConstraint, BadVariable, Contradiction, TextTooLong}
 use Rattle.bank.specs.Calls.{Tells, Accepted}
 use Rattle.bank.specs.Kinds.{number, Condition, Assignment, holds_at, well_formed, in_range}
-use Rattle.bank.specs.Numbers.{number as number-of-refusal}
+use Rattle.bank.specs.Numbers.{number as number_of_refusal}
 use Rattle.bank.specs.Views.{Meaning}
 use Rattle.machine.proofs.Solutions.{solves_told}
-use Rattle.worked.specs.Rows.{Bank, over-semitones, kind_of, stored, HasTold, EveryTell, TellRefused, TellAccepted}
+use Rattle.worked.specs.Rows.{Bank, over_semitones, kind_of, stored, HasTold, EveryTell, TellRefused, TellAccepted}
 use Rattle.worked.specs.Table.{above}
 use Rattle.worked.proofs.Distances.{held, solved, first_held, lies_above}
 
@@ -27,7 +27,7 @@ module _ (b : Bank) (told : List Condition) (c : Condition) (formed : well_forme
 
   pub refused :
       ((σ : Assignment) → stored b (told ++ c ∷ []) σ ≡ false)
-      → EveryTell b told c (λ r. (e : Refusal) × (r ≡ Err e) × (number-of-refusal e ≡ 33))
+      → EveryTell b told c (λ r. (e : Refusal) × (r ≡ Err e) × (number_of_refusal e ≡ 33))
   refused never m n s (Ok Kept) has t = absurd (not_accepted m n s never has t.accepted)
   refused never m n s (Ok Narrowed) has t = absurd (not_accepted m n s never has t)
   refused never m n s (Err NotLive) has t = absurd (both_ways (m.live s) t.not has.0)
@@ -56,27 +56,27 @@ eleven = told ++ above 2 0 11 ∷ []
 abbrev twelve : List Condition
 twelve = told ++ above 2 0 12 ∷ []
 
-eleven_fails : (σ : Assignment) → stored over-semitones eleven σ ≡ true → ⊥
+eleven_fails : (σ : Assignment) → stored over_semitones eleven σ ≡ true → ⊥
 eleven_fails σ e =
     let first = first_held (above 1 0 7) (above 2 1 5 ∷ above 2 0 11 ∷ []) σ (held eleven σ e) in
     let second = first_held (above 2 1 5) (above 2 0 11 ∷ []) σ first.1 in
     let third = first_held (above 2 0 11) [] σ second.1 in
     omega (arith, ints, lies_above 1 0 7 σ first.0, lies_above 2 1 5 σ second.0, lies_above 2 0 11 σ third.0)
 
-never : (σ : Assignment) → stored over-semitones eleven σ ≡ false
-never σ = ⊎_elim (λ e. absurd (eleven_fails σ e)) (λ e. e) (cases_Bool (stored over-semitones eleven σ))
+never : (σ : Assignment) → stored over_semitones eleven σ ≡ false
+never σ = ⊎_elim (λ e. absurd (eleven_fails σ e)) (λ e. e) (cases_Bool (stored over_semitones eleven σ))
 
-pub eleven_refused : TellRefused over-semitones told (above 2 0 11) 33
-eleven_refused = record { never = never; answer = refused over-semitones told (above 2 0 11) refl refl never }
+pub eleven_refused : TellRefused over_semitones told (above 2 0 11) 33
+eleven_refused = record { never = never; answer = refused over_semitones told (above 2 0 11) refl refl never }
 
 abbrev chord : ℕ → ℤ
 chord zero = pos 0
 chord (suc zero) = pos 7
 chord (suc (suc v)) = pos 12
 
-chord_solves : stored over-semitones twelve (λ v. number (chord v)) ≡ true
+chord_solves : stored over_semitones twelve (λ v. number (chord v)) ≡ true
 chord_solves = solved twelve chord refl
 
-pub twelve_accepted : TellAccepted over-semitones told (above 2 0 12)
+pub twelve_accepted : TellAccepted over_semitones told (above 2 0 12)
 twelve_accepted =
-    record { some = (λ v. number (chord v), chord_solves); answer = accepted over-semitones told (above 2 0 12) refl refl (λ v. number (chord v)) chord_solves }
+    record { some = (λ v. number (chord v), chord_solves); answer = accepted over_semitones told (above 2 0 12) refl refl (λ v. number (chord v)) chord_solves }

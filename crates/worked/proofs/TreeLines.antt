@@ -9,7 +9,7 @@ use Rattle.trees.specs.Kind.{trees}
 use Rattle.trees.specs.Says.{Says, a_number, a_name}
 use Rattle.trees.specs.laws.Solves.{equal_true, equal_refl}
 use Rattle.answer_line.specs.Lines.{line_of}
-use Rattle.worked.specs.Rows.{over-trees, stored, LineIs}
+use Rattle.worked.specs.Rows.{over_trees, stored, LineIs}
 
 abbrev filled : ℕ → ℤ → Assignment → Assignment
 filled p k f v = cond (ltb v p) (number k) (f v)
@@ -65,20 +65,20 @@ one k = record { code = 1; k = pos k; vars = 0 ∷ [] } ∷ []
 abbrev two : ℕ → List Condition
 two k = record { code = 1; k = pos k; vars = 0 ∷ [] } ∷ record { code = 0; k = pos 0; vars = 0 ∷ 1 ∷ [] } ∷ []
 
-held : (told : List Condition) (σ : Assignment) → stored over-trees told σ ≡ true → all_hold trees told σ ≡ true
+held : (told : List Condition) (σ : Assignment) → stored over_trees told σ ≡ true → all_hold trees told σ ≡ true
 held told σ e = (and_parts (all_admitted trees 256 σ) (all_hold trees told σ) e).1
 
-solved : (told : List Condition) (σ : Assignment) → all_hold trees told σ ≡ true → stored over-trees told σ ≡ true
+solved : (told : List Condition) (σ : Assignment) → all_hold trees told σ ≡ true → stored over_trees told σ ≡ true
 solved told σ e = and_from (all_admitted trees 256 σ) (all_hold trees told σ) (admitted 256 σ) e
 
-one_fixed : (k x : ℕ) → x < 1 → Always (stored over-trees (one k)) (λ σ. σ x ≡ number (pos k))
+one_fixed : (k x : ℕ) → x < 1 → Always (stored over_trees (one k)) (λ σ. σ x ≡ number (pos k))
 one_fixed k zero l σ e = equal_true (σ 0) (number (pos k)) (and_parts _ _ (held (one k) σ e)).0
 one_fixed k (suc x) l σ e = let z : ⊥ = omega arith in absurd z
 
-one_says : (k x : ℕ) → x < 256 → Says (stored over-trees (one k)) (texts 1 (pos k)) x
-one_says k = says (stored over-trees (one k)) 1 (pos k) (one_fixed k) (λ f. solved (one k) (filled 1 (pos k) f) (and_from _ _ (equal_refl (number (pos k))) refl))
+one_says : (k x : ℕ) → x < 256 → Says (stored over_trees (one k)) (texts 1 (pos k)) x
+one_says k = says (stored over_trees (one k)) 1 (pos k) (one_fixed k) (λ f. solved (one k) (filled 1 (pos k) f) (and_from _ _ (equal_refl (number (pos k))) refl))
 
-two_fixed : (k x : ℕ) → x < 2 → Always (stored over-trees (two k)) (λ σ. σ x ≡ number (pos k))
+two_fixed : (k x : ℕ) → x < 2 → Always (stored over_trees (two k)) (λ σ. σ x ≡ number (pos k))
 two_fixed k zero l σ e = equal_true (σ 0) (number (pos k)) (and_parts _ _ (held (two k) σ e)).0
 two_fixed k (suc zero) l σ e =
     let h = and_parts _ _ (held (two k) σ e) in
@@ -86,14 +86,14 @@ two_fixed k (suc zero) l σ e =
     let b = equal_true (σ 0) (σ 1) (and_parts _ _ h.1).0 in cc
 two_fixed k (suc (suc x)) l σ e = let z : ⊥ = omega arith in absurd z
 
-two_says : (k x : ℕ) → x < 256 → Says (stored over-trees (two k)) (texts 2 (pos k)) x
+two_says : (k x : ℕ) → x < 256 → Says (stored over_trees (two k)) (texts 2 (pos k)) x
 two_says k =
     let same = equal_refl (number (pos k)) in
-    says (stored over-trees (two k)) 2 (pos k) (two_fixed k) (λ f. solved (two k) (filled 2 (pos k) f) (and_from _ _ same (and_from _ _ same refl)))
+    says (stored over_trees (two k)) 2 (pos k) (two_fixed k) (λ f. solved (two k) (filled 2 (pos k) f) (and_from _ _ same (and_from _ _ same refl)))
 
 -- their lines
-pub one_line : (k : ℕ) (line : String) → codes line ≡ line_of (texts 1 (pos k)) 1 → LineIs over-trees 1 (one k) line
+pub one_line : (k : ℕ) (line : String) → codes line ≡ line_of (texts 1 (pos k)) 1 → LineIs over_trees 1 (one k) line
 one_line k line e = record { text = texts 1 (pos k); says = one_says k; joins = e }
 
-pub two_line : (k : ℕ) (line : String) → codes line ≡ line_of (texts 2 (pos k)) 2 → LineIs over-trees 2 (two k) line
+pub two_line : (k : ℕ) (line : String) → codes line ≡ line_of (texts 2 (pos k)) 2 → LineIs over_trees 2 (two k) line
 two_line k line e = record { text = texts 2 (pos k); says = two_says k; joins = e }

@@ -30,21 +30,21 @@ use Rattle.semitones.specs.Says.{Says as SemitoneSays}
 use Rattle.book.specs.declared.refusal.Cause.{Cause}
 use Rattle.book.specs.Language.{Rules, rule_at}
 use Rattle.book.specs.Listing.{Writes, IsBook}
-use Rattle.book.specs.Reading.{number as cause-number, reading, book, refused}
+use Rattle.book.specs.Reading.{number as cause_number, reading, book, refused}
 use Rattle.machine.specs.Machine.{Side, Tree, State, Entry, Run}
 use Rattle.machine.specs.Derivations.{Deriv, weight, choices, Posable}
 use Rattle.answer_line.specs.Lines.{line_of}
 
 pub data Bank : Type 0 where
-  over-trees over-semitones : Bank
+  over_trees over_semitones : Bank
 
 abbrev pub kind_of : Bank → Kind
-kind_of over-trees = trees
-kind_of over-semitones = whole
+kind_of over_trees = trees
+kind_of over_semitones = whole
 
 abbrev pub SaysOf : Bank → Solutions → (ℕ → List ℕ) → ℕ → Type 0
-SaysOf over-trees s text x = TreeSays s text x
-SaysOf over-semitones s text x = SemitoneSays s x (text x)
+SaysOf over_trees s text x = TreeSays s text x
+SaysOf over_semitones s text x = SemitoneSays s x (text x)
 
 -- both banks have 256 variables
 abbrev pub stored : Bank → List Condition → Solutions
@@ -111,7 +111,7 @@ pub record Weighed (b : Bank) (text : String) (values : List Value) (sides : Lis
 pub record Refused (text : String) (n line field : ℕ) : Type 0 where
   pub cause : Cause
   pub answer : reading (codes text) ≡ refused cause line field
-  pub its_number : cause-number cause ≡ n
+  pub its_number : cause_number cause ≡ n
 
 pub record ReadAlike (one other : String) : Type 0 where
   pub rules : Rules

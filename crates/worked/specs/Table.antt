@@ -13,7 +13,7 @@ use Rattle.std.specs.Prelude.{ℕ, List, [], ◌∷◌, pos}
 use Prim.Native.String.{String}
 use Rattle.bank.specs.Kinds.{Value, number, Condition}
 use Rattle.machine.specs.Machine.{left as L, right as R}
-use Rattle.worked.specs.Rows.{over-trees, over-semitones, exhausted, spent, Row, runs, weighs, refuses, reads_alike, contradicts, accepts}
+use Rattle.worked.specs.Rows.{over_trees, over_semitones, exhausted, spent, Row, runs, weighs, refuses, reads_alike, contradicts, accepts}
 
 abbrev pub two_ways : String
 two_ways = "rule,1\nor\ntell,1,60,0\ntell,1,67,0\n"
@@ -48,20 +48,20 @@ numbers (k ∷ ks) = number (pos k) ∷ numbers ks
 
 abbrev pub table : List Row
 table =
-    runs over-trees two_ways 3 ((2, L ∷ [], "60") ∷ (3, R ∷ [], "67") ∷ []) exhausted
-    ∷ weighs over-trees two_ways (numbers (60 ∷ [])) (L ∷ []) 2
-    ∷ weighs over-trees two_ways (numbers (67 ∷ [])) (R ∷ []) 3
-    ∷ runs over-trees both_ways 6 ((4, L ∷ [], "60,60") ∷ (6, R ∷ [], "67,67") ∷ []) exhausted
-    ∷ weighs over-trees both_ways (numbers (60 ∷ 60 ∷ [])) (L ∷ []) 6
-    ∷ weighs over-trees both_ways (numbers (67 ∷ 67 ∷ [])) (R ∷ []) 12
-    ∷ runs over-trees again 9 ((3, R ∷ [], "5") ∷ (6, L ∷ R ∷ [], "5") ∷ (9, L ∷ L ∷ R ∷ [], "5") ∷ []) spent
-    ∷ weighs over-trees again (numbers (5 ∷ [])) (R ∷ []) 3
-    ∷ weighs over-trees again (numbers (5 ∷ [])) (L ∷ R ∷ []) 8
-    ∷ runs over-trees inside 2 [] exhausted
-    ∷ runs over-semitones fifth 1 ((1, [], "_0,_0+7") ∷ []) exhausted
-    ∷ runs over-trees idle 6 [] spent
+    runs over_trees two_ways 3 ((2, L ∷ [], "60") ∷ (3, R ∷ [], "67") ∷ []) exhausted
+    ∷ weighs over_trees two_ways (numbers (60 ∷ [])) (L ∷ []) 2
+    ∷ weighs over_trees two_ways (numbers (67 ∷ [])) (R ∷ []) 3
+    ∷ runs over_trees both_ways 6 ((4, L ∷ [], "60,60") ∷ (6, R ∷ [], "67,67") ∷ []) exhausted
+    ∷ weighs over_trees both_ways (numbers (60 ∷ 60 ∷ [])) (L ∷ []) 6
+    ∷ weighs over_trees both_ways (numbers (67 ∷ 67 ∷ [])) (R ∷ []) 12
+    ∷ runs over_trees again 9 ((3, R ∷ [], "5") ∷ (6, L ∷ R ∷ [], "5") ∷ (9, L ∷ L ∷ R ∷ [], "5") ∷ []) spent
+    ∷ weighs over_trees again (numbers (5 ∷ [])) (R ∷ []) 3
+    ∷ weighs over_trees again (numbers (5 ∷ [])) (L ∷ R ∷ []) 8
+    ∷ runs over_trees inside 2 [] exhausted
+    ∷ runs over_semitones fifth 1 ((1, [], "_0,_0+7") ∷ []) exhausted
+    ∷ runs over_trees idle 6 [] spent
     ∷ refuses two_ways_cut 5 4 1
     ∷ reads_alike two_ways two_ways_bare
-    ∷ contradicts over-semitones (above 1 0 7 ∷ above 2 1 5 ∷ []) (above 2 0 11) 33
-    ∷ accepts over-semitones (above 1 0 7 ∷ above 2 1 5 ∷ []) (above 2 0 12)
+    ∷ contradicts over_semitones (above 1 0 7 ∷ above 2 1 5 ∷ []) (above 2 0 11) 33
+    ∷ accepts over_semitones (above 1 0 7 ∷ above 2 1 5 ∷ []) (above 2 0 12)
     ∷ []
