@@ -4,7 +4,7 @@
 --
 -- A refusal stands with its cause, and with the fact that no earlier cause holds: not live, no spare store, no such constraint, no such
 -- variable, contradiction. Texts are not spoken of where solutions stay, since equal solutions have equal texts.
-use Rattle.std.specs.Prelude.{◌≡◌, ℕ, ◌+◌, ◌<◌, ◌≤◌, Bool, true, false, ◌&&◌, List, length, take, drop, replicate, Ok, Err, Result, ◌≢◌}
+use Rattle.std.specs.Prelude.{◌≡◌, ℕ, ◌+◌, ◌<◌, ◌≤◌, true, false, ◌&&◌, List, length, take, drop, replicate, Ok, Err, Result, ◌≢◌}
 use Rattle.bank.specs.declared.Effect.{Effect}
 use Rattle.bank.specs.declared.Effect.TheVariants.{Kept, Narrowed}
 use Rattle.bank.specs.declared.Refusal.{Refusal}

@@ -2,15 +2,14 @@
 --
 --   Follows   the scopes awaited before a line, and after it
 --   Awaited   the lines follow one another, and none is awaited after the last
-use Rattle.std.proofs.Common.{◌≡◌, ℕ, zero, suc, ◌+◌, ◌<◌, Bool, true, false, cond, ltb, List, [], ◌∷◌, ◌++◌, length, drop, Some, None, Option, sym, refl, ap, ◌∙◌, subst, append_assoc, append-nil, arith}
+use Rattle.std.proofs.Common.{◌≡◌, ℕ, zero, suc, ◌+◌, ◌<◌, ltb, List, [], ◌∷◌, ◌++◌, drop, None, Option, sym, refl, ap, ◌∙◌, subst, append_assoc, append-nil, arith}
 use Rattle.std.proofs.lemmas.Bool.{ltb-true}
 use Rattle.fields.specs.Cutting.{fields}
 use Rattle.line.proofs.Exactly.{exact}
 use Rattle.line.specs.Reading.{Outcome, said, wrong, outcome}
 use Rattle.line.specs.Statements.{Statement, a_rule, a_tell, an_and, an_or, a_new, a_call, InRange}
-use Rattle.book.specs.declared.refusal.Cause.{Cause}
 use Rattle.book.specs.Language.{Each}
-use Rattle.book.specs.Reading.{Entry, State, Placed, placed, barred, stray, goal_placed, slots_placed, place_rule_lem, place_in, place_goal_lem, place, Checked, passed, closed, check}
+use Rattle.book.specs.Reading.{Entry, State, Placed, placed, barred, stray, goal_placed, slots_placed, place_rule_lem, place_in, place_goal_lem, place, passed, closed, check}
 use Rattle.book.proofs.Passing.{not_barred, none_stray, slots_only, onward, behind, check_cons}
 
 abbrev pub Follows : Statement → ℕ → List ℕ → List ℕ → Type 0

@@ -1,5 +1,5 @@
 -- One call against the rule that it names, and the calls one after another. Assumes nothing.
-use Rattle.std.proofs.Common.{◌≡◌, ℕ, ◌+◌, ◌<◌, ◌≤◌, true, false, cond, ltb, List, [], ◌∷◌, length, get_or, drop, Some, None, Option, sym, refl, ap, ◌∙◌, subst, arith}
+use Rattle.std.proofs.Common.{◌≡◌, ℕ, ◌+◌, ◌<◌, ◌≤◌, ltb, length, get_or, drop, Some, None, Option, sym, refl, ap, ◌∙◌, arith}
 use Rattle.std.proofs.lemmas.List.{drop_all, get_or-take}
 use Rattle.std.proofs.lemmas.Bool.{cond-true, lt-ltb}
 use Rattle.line.specs.Slots.{says}
@@ -7,7 +7,6 @@ use Rattle.book.specs.declared.drafts.Draft.{Draft}
 use Rattle.book.specs.declared.drafts.Listed.{Listed}
 use Rattle.book.specs.declared.refusal.Cause.{Cause}
 use Rattle.book.specs.Drafts.{entries, head_at}
-use Rattle.book.specs.Lists.{entry_of}
 use Rattle.book.specs.Reading.{Misfit, fitting, misfit_at, heads, call_fault_lem, misfit}
 use Rattle.book.proofs.Built.{entries_long, heads_long, line_here}
 

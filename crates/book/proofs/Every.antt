@@ -1,18 +1,17 @@
 -- Every book that can exist is a book: within the limits, and well formed. Assumes nothing.
 use Rattle.std.proofs.Common.{◌≡◌, ℕ, zero, suc, ◌+◌, ◌<◌, ◌≤◌, true, ◌&&◌, eqb, ltb, leb, List, [], ◌∷◌, ◌++◌, length, get_or, take, sym, refl, ap, ◌∙◌, subst, add-one, arith}
-use Rattle.std.proofs.lemmas.Bool.{and_parts, leb-true, eqb-true}
-use Rattle.line.specs.declared.Slots.{Slots}
+use Rattle.std.proofs.lemmas.Bool.{and_parts, eqb-true}
 use Rattle.line.specs.Slots.{slots_of}
-use Rattle.line.specs.Statements.{Statement, a_rule, AllSlots, InRange}
+use Rattle.line.specs.Statements.{AllSlots, InRange}
 use Rattle.book.specs.declared.Book.{Book}
 use Rattle.book.specs.declared.Form.{Form}
 use Rattle.book.specs.declared.Form.TheVariants.{Tell, And, Or, New, Call}
 use Rattle.book.specs.declared.Node.{Node}
 use Rattle.book.specs.declared.Rule.{Rule}
-use Rattle.book.specs.Language.{Goal, tell, conj, disj, fresh, call, Rules, rule_at, size, total, Each, Fits, WellFormed, Shallow}
+use Rattle.book.specs.Language.{Goal, conj, disj, fresh, Rules, rule_at, size, total, Each, Fits, Shallow}
 use Rattle.book.specs.Listing.{goal_lines, listing, IsBook}
 use Rattle.book.specs.Meaning.{book_nodes, book_rules, meaning}
-use Rattle.book.specs.Table.{goal_at, blank, no_rule, scope_at, line_at, part, nested, heads_of, calls_fit, rooted, rule_of, rules_of, InScope, Stands, Rooted}
+use Rattle.book.specs.Table.{goal_at, blank, no_rule, scope_at, line_at, part, nested, heads_of, calls_fit, rooted, rules_of, Stands}
 use Rattle.book.proofs.Walks.{nodes_used, rules_used_lem, stands, rooted_at, rules_length, rule_at_of}
 
 pub each_append : {A : Type 0} (P : A → Type 0) (xs ys : List A) → Each P xs → Each P ys → Each P (xs ++ ys)

@@ -1,5 +1,5 @@
 -- What the loop over the lines of a text keeps. Assumes nothing.
-use Rattle.std.proofs.Common.{◌≡◌, ℕ, ◌+◌, ◌<◌, ◌≤◌, List, [], ◌∷◌, ◌++◌, length, Some, None, sym, refl, ap, ◌∙◌, subst, arith}
+use Rattle.std.proofs.Common.{◌≡◌, ℕ, ◌+◌, ◌≤◌, List, [], length, Some, None, sym, refl, ap, ◌∙◌, arith}
 use Rattle.std.proofs.lemmas.List.{length_push}
 use Rattle.fields.specs.declared.Fields.{Fields}
 use Rattle.fields.specs.Cursor.{here, later, Lined}
@@ -9,8 +9,8 @@ use Rattle.stack.specs.declared.Stack.{Stack}
 use Rattle.stack.specs.Items.{items, room}
 use Rattle.book.specs.declared.drafts.Draft.{Draft}
 use Rattle.book.specs.declared.refusal.Barred.{Barred}
-use Rattle.book.specs.Drafts.{entries, state_of, taken}
-use Rattle.book.specs.Reading.{State, Placed, placed, barred, Checked, stopped, start, place, check}
+use Rattle.book.specs.Drafts.{state_of, taken}
+use Rattle.book.specs.Reading.{State, placed, barred, stopped, start, check}
 use Rattle.book.proofs.Awaited.{placing}
 use Rattle.book.proofs.Built.{entries_long}
 use Rattle.book.proofs.Passing.{onward, behind, check_cons}

@@ -3,25 +3,24 @@
 --   goals_in   how many of some lines are goals
 --   Rows       goals that are written one behind the other, from a line on up to another
 --   Grown      the table and the rules stand for what the lines make, with these goals waiting for one above them
-use Rattle.std.proofs.Common.{◌≡◌, ℕ, zero, suc, ◌+◌, ◌<◌, ◌≤◌, Bool, true, false, cond, ◌&&◌, eqb, ltb, leb, List, [], ◌∷◌, ◌++◌, map, length, get_or, take, Some, None, Option, sym, refl, ap, ◌∙◌, subst, arith}
+use Rattle.std.proofs.Common.{◌≡◌, ℕ, zero, suc, ◌+◌, ◌<◌, ◌≤◌, Bool, true, false, cond, ◌&&◌, eqb, ltb, List, [], ◌∷◌, ◌++◌, map, length, get_or, take, Some, None, sym, refl, ap, ◌∙◌, subst, arith}
 use Rattle.std.proofs.lemmas.List.{length_push, length-take-le, length-map}
-use Rattle.std.proofs.lemmas.Bool.{and_parts, and_from, ltb-true, lt-ltb, leb-true, le-leb, eqb-true, eq-eqb, both_ways}
+use Rattle.std.proofs.lemmas.Bool.{and_from, ltb-true, lt-ltb, leb-true, le-leb, eqb-true, eq-eqb}
 use Rattle.line.specs.declared.Line.{Line}
 use Rattle.line.specs.declared.Line.TheVariants.{Rule as RuleLine, Tell as TellLine, And as AndLine, Or as OrLine, New as NewLine, Call as CallLine}
 use Rattle.line.specs.declared.Slots.{Slots}
 use Rattle.line.specs.Slots.{says, slots_of, slots_sized, sized}
-use Rattle.line.specs.Statements.{Statement, a_rule, a_tell, an_and, an_or, a_new, a_call, InRange}
+use Rattle.line.specs.Statements.{Statement, a_rule, a_tell, an_and, an_or, a_new, a_call}
 use Rattle.numeral.specs.Reads.{size as magnitude}
-use Rattle.book.specs.declared.refusal.Cause.{Cause}
 use Rattle.book.specs.declared.refusal.Cause.TheVariants.{SlotCount, NoSuchRule}
 use Rattle.book.specs.declared.Form.{Form}
 use Rattle.book.specs.declared.Node.{Node}
 use Rattle.book.specs.declared.Rule.{Rule}
 use Rattle.book.specs.Building.{head, tail, formed, unused}
-use Rattle.book.specs.Language.{Goal, conj, disj, fresh, size, nothing, Each}
-use Rattle.book.specs.Reading.{Entry, Forest, first, rest, planted, forest, heads, call_fault_lem}
-use Rattle.book.specs.Table.{grown, goals_of, goal_at, blank, scope_at, line_at, part, all_below, slots_fit, form_fits, heads_of, call_fits, calls_fit, rooted, rules_of}
-use Rattle.book.proofs.Awaited.{Follows, Awaited}
+use Rattle.book.specs.Language.{Goal, conj, disj, fresh, size, Each}
+use Rattle.book.specs.Reading.{Entry, first, rest, forest, heads, call_fault_lem}
+use Rattle.book.specs.Table.{grown, goals_of, goal_at, scope_at, line_at, part, all_below, slots_fit, form_fits, heads_of, call_fits, calls_fit, rooted, rules_of}
+use Rattle.book.proofs.Awaited.{Awaited}
 use Rattle.book.proofs.Grows.{goal_kept, goal_new, node_kept, node_new, rooted_kept, rules_kept, calls_more}
 
 abbrev pub goals_for : Statement → ℕ

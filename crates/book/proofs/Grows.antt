@@ -1,11 +1,11 @@
 -- One node more in a table: what the table had, it has. Assumes nothing.
-use Rattle.std.proofs.Common.{◌≡◌, ℕ, suc, ◌+◌, ◌<◌, ◌≤◌, Bool, true, false, ◌&&◌, eqb, ltb, List, [], ◌∷◌, ◌++◌, length, get_or, sym, refl, ap, ◌∙◌, subst, append_assoc, append-nil, arith}
+use Rattle.std.proofs.Common.{◌≡◌, ℕ, ◌+◌, ◌<◌, true, ◌&&◌, eqb, ltb, List, [], ◌∷◌, ◌++◌, length, get_or, sym, refl, ap, ◌∙◌, subst, append_assoc, append-nil, arith}
 use Rattle.std.proofs.lemmas.List.{length-append, length_push, get_or_append_left, get_or_push}
-use Rattle.std.proofs.lemmas.Bool.{and_parts, and_from, ltb-true, lt-ltb, eqb-true, eq-eqb}
+use Rattle.std.proofs.lemmas.Bool.{and_parts, and_from, ltb-true, lt-ltb}
 use Rattle.book.specs.declared.Node.{Node}
 use Rattle.book.specs.declared.Rule.{Rule}
 use Rattle.book.specs.Language.{Goal, nothing, size}
-use Rattle.book.specs.Table.{grown, goals_of, goal_at, blank, scope_at, line_at, part, form_fits, nested, call_fits, calls_fit, rooted, rule_of, rules_of}
+use Rattle.book.specs.Table.{grown, goals_of, goal_at, blank, scope_at, line_at, part, form_fits, nested, call_fits, calls_fit, rooted, rules_of}
 
 pub nested_more : (before ns : List Node) (n : Node) → nested before ns ≡ true → form_fits (before ++ ns) n.scope n.line n.form ≡ true → nested before (ns ++ n ∷ []) ≡ true
 nested_more before [] n a b = and_from _ _ (subst (λ l. form_fits l n.scope n.line n.form ≡ true) (append-nil before) b) refl

@@ -1,9 +1,9 @@
 -- What a text that is not too long is read as, by what its lines gave. Assumes nothing.
-use Rattle.std.proofs.Common.{◌≡◌, ℕ, false, ltb, List, length, sym, refl, ap, ◌∙◌}
+use Rattle.std.proofs.Common.{◌≡◌, ℕ, false, ltb, List, length, sym, ap, ◌∙◌}
 use Rattle.std.proofs.lemmas.Bool.{cond-false}
 use Rattle.fields.specs.Cutting.{lines}
 use Rattle.book.specs.declared.refusal.Cause.{Cause}
-use Rattle.book.specs.Reading.{Entry, Misfit, fitting, misfit_at, Checked, passed, stopped, start, check, heads, misfit, forest, Reading, book, refused, settled, reading}
+use Rattle.book.specs.Reading.{Entry, Misfit, fitting, misfit_at, passed, stopped, start, check, heads, misfit, forest, Reading, book, refused, settled, reading}
 
 module _ (text : List ℕ) (short : ltb 65536 (length text) ≡ false) where
   reading_settled : settled (check 1 start (lines text)) ≡ reading text

@@ -1,6 +1,6 @@
 -- What a well-formed table says of one node and of one rule. Assumes nothing.
-use Rattle.std.proofs.Common.{◌≡◌, ℕ, zero, suc, ◌+◌, ◌<◌, ◌≤◌, Bool, true, false, ◌&&◌, eqb, ltb, leb, List, [], ◌∷◌, ◌++◌, length, get_or, take, sym, refl, ap, ◌∙◌, subst, append_assoc, append-nil, arith}
-use Rattle.std.proofs.lemmas.List.{length-append, length_push, length-take, length-take-le, take_all, take-take, take_at, get_or-take, get_or_push}
+use Rattle.std.proofs.Common.{◌≡◌, ℕ, zero, suc, ◌+◌, ◌<◌, ◌≤◌, true, false, ◌&&◌, eqb, ltb, leb, List, [], ◌∷◌, ◌++◌, length, get_or, take, sym, refl, ap, ◌∙◌, subst, append_assoc, append-nil, arith}
+use Rattle.std.proofs.lemmas.List.{length_push, length-take, length-take-le, take_all, take-take, take_at, get_or-take, get_or_push}
 use Rattle.std.proofs.lemmas.Bool.{both_ways, and_parts, ltb-true, leb-true, eqb-true}
 use Rattle.line.specs.declared.Slots.{Slots}
 use Rattle.numeral.specs.Reads.{size as magnitude}

@@ -5,7 +5,7 @@
 --   state_of    a draft and the scopes awaited, as the state of the check
 --   opened      what is awaited after a goal line, or why it cannot stand
 --   placed_by   the code's answer to a line, as the definitions have it
-use Rattle.std.specs.Prelude.{ℕ, ◌+◌, cond, List, [], ◌∷◌, ◌++◌, map, length, take, Some, None, Ok, Err, Option, Result, nat_lt, slice_index}
+use Rattle.std.specs.Prelude.{ℕ, ◌+◌, cond, List, ◌∷◌, map, length, take, Some, None, Ok, Err, Option, Result, nat_lt, slice_index}
 use Rattle.line.specs.declared.Fault.{Fault}
 use Rattle.line.specs.Reading.{Outcome, said, wrong}
 use Rattle.line.specs.Statements.{Statement, a_rule, a_tell, an_and, an_or, a_new, a_call}

@@ -9,7 +9,7 @@
 --   Fits         a goal names only slots in scope, and calls rules of the book with as many slots as they take
 --   WellFormed   each rule's goal fits
 --   Shallow      no goal has more than 16 slots in scope
-use Rattle.std.specs.Prelude.{◌≡◌, ℕ, zero, suc, ◌+◌, ◌<◌, ◌≤◌, List, [], ◌∷◌, length, ℤ, pos, slice_index_or}
+use Rattle.std.specs.Prelude.{◌≡◌, ℕ, suc, ◌+◌, ◌<◌, List, [], ◌∷◌, length, ℤ, pos, slice_index_or}
 
 -- A slot is a place in the list of what is in scope.
 pub data Goal : Type 0 where

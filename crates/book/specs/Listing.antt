@@ -8,7 +8,7 @@
 use Rattle.std.specs.Prelude.{◌≡◌, ℕ, ◌≤◌, ◌⊎◌, List, [], ◌∷◌, ◌++◌, map, length}
 use Rattle.fields.specs.Cutting.{newline, joined, ended}
 use Rattle.line.specs.Statements.{Statement, a_rule, a_tell, an_and, an_or, a_new, a_call, words, InRange}
-use Rattle.book.specs.Language.{Goal, tell, conj, disj, fresh, call, Rule, Rules, total, Each, WellFormed, Shallow}
+use Rattle.book.specs.Language.{Goal, tell, conj, disj, fresh, call, Rules, total, Each, WellFormed, Shallow}
 
 abbrev pub goal_lines : Goal → List Statement
 goal_lines (tell code k slots) = a_tell code k slots ∷ []

@@ -1,5 +1,5 @@
 -- What a table and a book of the code stand for. Assumes nothing.
-use Rattle.std.specs.Prelude.{◌≡◌, ℕ, List, [], take}
+use Rattle.std.specs.Prelude.{ℕ, List, take}
 use Rattle.book.specs.declared.Book.{Book}
 use Rattle.book.specs.declared.Node.{Node}
 use Rattle.book.specs.declared.Rule.{Rule}

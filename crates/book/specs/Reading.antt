@@ -9,16 +9,16 @@
 --   reading    the book that a text is, or the refusal with its line and its field
 --   answered   the code's answer as a reading
 --   ReadsBooks a text is read exactly if it is that of a book, and then as this book
-use Rattle.std.specs.Prelude.{◌≡◌, ℕ, ◌+◌, Bool, true, false, cond, List, [], ◌∷◌, ◌++◌, length, Some, None, Ok, Err, Option, Result, ◌==◌, nat_lt, slice_index}
+use Rattle.std.specs.Prelude.{◌≡◌, ℕ, ◌+◌, cond, List, [], ◌∷◌, ◌++◌, length, Some, None, Ok, Err, Option, Result, ◌==◌, nat_lt, slice_index}
 use Rattle.fields.specs.Cutting.{lines, fields}
 use Rattle.line.specs.declared.Fault.{Fault}
 use Rattle.line.specs.declared.Fault.TheVariants.{UnknownWord as NoWord, FieldCount as WrongCount, BadNumber as NoNumber}
-use Rattle.line.specs.Reading.{Outcome, said, wrong, outcome}
+use Rattle.line.specs.Reading.{said, wrong, outcome}
 use Rattle.line.specs.Statements.{Statement, a_rule, a_tell, an_and, an_or, a_new, a_call}
 use Rattle.book.specs.declared.refusal.Cause.{Cause}
 use Rattle.book.specs.declared.refusal.Cause.TheVariants.{TextTooLong, UnknownWord, FieldCount, BadNumber, GoalNotAwaited, RuleTooEarly, TextEnds, TooManyRules, TooManyGoals, TooManySlots, NotInScope, NoSuchRule, SlotCount}
 use Rattle.book.specs.declared.refusal.Refusal.{Refusal}
-use Rattle.book.specs.Language.{Goal, tell, conj, disj, fresh, call, Rule, Rules, nothing}
+use Rattle.book.specs.Language.{Goal, tell, conj, disj, fresh, call, Rules, nothing}
 use Rattle.book.specs.Listing.{Writes, IsBook}
 
 abbrev pub number : Cause → ℕ

@@ -13,10 +13,8 @@
 --   rooted      each rule has its goal, and the rules stand one behind the other in the text, up to its end
 --   Stands      what holds of a node in a well-formed table, for whoever walks it
 --   Rooted      what holds of a rule
-use Rattle.std.specs.Prelude.{◌≡◌, ℕ, zero, suc, ◌+◌, ◌<◌, ◌≤◌, Bool, true, false, ◌&&◌, List, [], ◌∷◌, ◌++◌, length, get_or, ℤ, pos, ◌==◌, nat_le, nat_lt, slice_index, slice_index_or}
-use Rattle.line.specs.declared.Call.{Call as CallOf}
+use Rattle.std.specs.Prelude.{◌≡◌, ℕ, zero, suc, ◌+◌, ◌<◌, ◌≤◌, Bool, true, false, ◌&&◌, List, [], ◌∷◌, ◌++◌, length, get_or, pos, ◌==◌, nat_le, nat_lt, slice_index, slice_index_or}
 use Rattle.line.specs.declared.Slots.{Slots}
-use Rattle.line.specs.declared.Tell.{Tell as TellOf}
 use Rattle.line.specs.Slots.{slots_of}
 use Rattle.numeral.specs.Reads.{size as magnitude}
 use Rattle.book.specs.declared.Form.{Form}

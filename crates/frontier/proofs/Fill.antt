@@ -1,7 +1,7 @@
 -- Solutions over n variables and over more: the rest is filled by a value of the kind. Assumes nothing.
-use Rattle.std.proofs.Common.{◌≡◌, ℕ, zero, suc, ◌<◌, ◌≤◌, Bool, true, false, cond, ◌&&◌, ltb, ◌⊎◌, List, [], sym, refl, ap, ◌∙◌, subst, inl, inr, eq-or-lt_of_le, arith, ltb-false, ltb-true, le-ltb, lt-ltb}
+use Rattle.std.proofs.Common.{◌≡◌, ℕ, zero, suc, ◌<◌, ◌≤◌, Bool, true, false, cond, ltb, List, sym, refl, ap, ◌∙◌, subst, inl, inr, eq-or-lt_of_le, arith, ltb-false, ltb-true, le-ltb, lt-ltb}
 use mathlib.Core.Bool.{and-eq-true_iff}
-use Rattle.bank.specs.Kinds.{Value, Kind, Condition, Assignment, all_hold, all_admitted, solves, Solves}
+use Rattle.bank.specs.Kinds.{Value, Kind, Condition, Assignment, all_hold, all_admitted, Solves}
 use Rattle.machine.specs.Machine.{Answer}
 use Rattle.machine.proofs.Values.{Local}
 use Rattle.machine.proofs.Frames.{Agrees}

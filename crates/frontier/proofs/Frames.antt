@@ -1,10 +1,9 @@
 -- Reading and making frames. Assumes nothing.
-use Rattle.std.proofs.Common.{◌≡◌, ℕ, zero, suc, ◌+◌, ◌<◌, ◌≤◌, List, [], ◌∷◌, ◌++◌, map, length, get_or, take, set, sym, refl, ap, ◌∙◌, add-one, arith, length-take, length-take-le, take-suc, take-suc-set}
+use Rattle.std.proofs.Common.{◌≡◌, ℕ, ◌+◌, ◌<◌, ◌≤◌, List, [], ◌∷◌, ◌++◌, length, get_or, take, set, sym, ap, ◌∙◌, add-one, arith, length-take, length-take-le, take-suc, take-suc-set}
 use mathlib.Core.List.{map-append}
 use Rattle.std.proofs.lemmas.List.{get_or-take}
 use Rattle.book.specs.Table.{InScope}
 use Rattle.line.specs.declared.Slots.{Slots}
-use Rattle.line.specs.Slots.{slots_of}
 use Rattle.machine.specs.Machine.{vars_of_lem, upto}
 use Rattle.frontier.specs.declared.tree.Frame.{Frame}
 use Rattle.frontier.specs.Frames.{list_of, Sized}

@@ -1,18 +1,17 @@
 -- Each way through a leaf's step, as a step of the machine. Assumes nothing.
-use Rattle.std.proofs.Common.{◌≡◌, ℕ, suc, ◌+◌, ◌<◌, ◌≤◌, Bool, true, false, ◌&&◌, leb, ◌⊎◌, List, [], ◌∷◌, ◌++◌, length, get_or, ℤ, pos, negsuc, nat_abs, Some, None, Ok, Err, Option, Result, Box, sym, refl, ap, ◌∙◌, subst, inl, inr, eq-or-lt_of_le, arith, lt-ltb, le-leb}
+use Rattle.std.proofs.Common.{◌≡◌, ℕ, suc, ◌+◌, ◌<◌, ◌≤◌, Bool, true, false, ◌&&◌, List, [], ◌∷◌, ◌++◌, length, get_or, ℤ, pos, negsuc, nat_abs, Some, None, Ok, Err, Option, Box, sym, refl, ap, ◌∙◌, subst, inl, inr, eq-or-lt_of_le, arith, lt-ltb, le-leb}
 use lib.ListN.{length-map}
 use Rattle.std.proofs.lemmas.Bool.{both_ways, and_from}
 use Rattle.std.specs.declared.alloc.Global.{Global}
 use Rattle.bank.specs.declared.Refusal.TheVariants.{NotLive, NoSpare, BadConstraint, BadVariable, Contradiction, TextTooLong}
 use Rattle.bank.specs.Calls.{Unchanged, Others, Added, Accepted, Released}
-use Rattle.bank.specs.Kinds.{Value, Kind, Condition, Assignment, holds_at, solves, Solves, takes, well_formed, in_range, all_below}
+use Rattle.bank.specs.Kinds.{Value, Kind, Condition, Assignment, holds_at, solves, Solves, takes, all_below}
 use Rattle.bank.specs.Views.{Meaning}
 use Rattle.book.specs.declared.Book.{Book}
 use Rattle.book.specs.declared.Form.{Form}
 use Rattle.book.specs.declared.Form.TheVariants.{Tell, And, Or, New, Call}
-use Rattle.book.specs.declared.Node.{Node}
 use Rattle.book.specs.declared.Rule.{Rule as RuleOf}
-use Rattle.book.specs.Language.{Goal, tell, conj, disj, fresh, call, Rule, Rules, Fits, rule_at}
+use Rattle.book.specs.Language.{Goal, tell, fresh, call, Rule, Rules, Fits, rule_at}
 use Rattle.book.specs.Meaning.{book_nodes, book_rules, meaning}
 use Rattle.book.specs.Table.{blank, rule_of, InScope, Rooted}
 use Rattle.book.specs.Table.{Stands as FormStands}
@@ -20,7 +19,7 @@ use Rattle.line.specs.declared.Call.{Call as CallOf}
 use Rattle.line.specs.declared.Tell.{Tell as TellOf}
 use Rattle.line.specs.Slots.{slots_of}
 use Rattle.numeral.specs.Reads.{size}
-use Rattle.machine.specs.Machine.{Side, left, right, Frame, Answer, State, Tree as MachineTree, leaf, branch, chain, Step, vars_of_lem, told_at}
+use Rattle.machine.specs.Machine.{Side, left, right, Frame, Tree as MachineTree, leaf, branch, chain, Step, vars_of_lem, told_at}
 use Rattle.machine.specs.Machine.{step_tell_lem, step_fail, step_conj, step_disj, step_fresh, step_call}
 use Rattle.machine.proofs.Frames.{Below, below_later, frame_push, slots_below}
 use Rattle.machine.proofs.Solutions.{solves_told}
@@ -30,18 +29,17 @@ use Rattle.machine.proofs.Waiting.{from}
 use Rattle.frontier.specs.declared.stop.Stop.{Stop}
 use Rattle.frontier.specs.declared.stop.Stop.TheVariants.{Nodes, Variables, Stores}
 use Rattle.frontier.specs.declared.tree.Found.{Found}
-use Rattle.frontier.specs.declared.tree.Frame.{Frame as FrameOf}
 use Rattle.frontier.specs.declared.tree.Task.{Task}
 use Rattle.frontier.specs.declared.tree.Tree.{Tree, Branch, Chain}
-use Rattle.frontier.specs.declared.tree.Tree.TheVariants.{Leaf, Branch', Chain'}
-use Rattle.frontier.specs.Books.{Copies, Reads, known}
+use Rattle.frontier.specs.declared.tree.Tree.TheVariants.{Leaf}
+use Rattle.frontier.specs.Books.{Reads, known}
 use Rattle.frontier.specs.Frames.{list_of, Sized}
 use Rattle.frontier.specs.declared.tree.Stepped.{Stepped}
-use Rattle.frontier.specs.Steps.{Scoped, Ready, Went, Next, AtFresh, AtOr, adds, Stops, Boxed, tells, Telling, Told, TellDoes, Seconds}
+use Rattle.frontier.specs.Steps.{Ready, Went, Next, AtFresh, AtOr, adds, Stops, Boxed, tells, Telling, Told, TellDoes, Seconds}
 use Rattle.frontier.specs.Trees.{boxes, In, Apart, leaves, Kept, Tasked, Stands, Elsewhere}
 use Rattle.frontier.proofs.Fill.{narrow, widen}
 use Rattle.frontier.proofs.Frames.{sized_length}
-use Rattle.frontier.proofs.Places.{IsTell, at_tell, IsTwo, at_and, at_or, IsNew, at_new, IsCall, at_call}
+use Rattle.frontier.proofs.Places.{at_tell, at_and, at_or, at_new, at_call}
 
 -- A leaf's state is a leaf.
 pub record AtLeaf (K : Kind) (V : ℕ) (book : Book) (rules : Rules) (m : Meaning) (l : Task) (T : MachineTree) : Type 0 where

@@ -1,22 +1,21 @@
 -- Each way through a step of a branch or a chain, as a step of the machine. Assumes nothing.
-use Rattle.std.proofs.Common.{◌≡◌, ℕ, suc, ◌+◌, ◌<◌, ◌≤◌, Bool, true, false, ◌⊎◌, List, [], ◌∷◌, ◌++◌, length, Some, None, Option, Box, sym, refl, ap, ◌∙◌, subst, inl, inr, arith}
+use Rattle.std.proofs.Common.{◌≡◌, ℕ, Bool, true, false, ◌⊎◌, length, Some, None, Option, Box, sym, refl, ap, ◌∙◌, subst, inl, inr, arith}
 use Rattle.std.proofs.lemmas.Bool.{both_ways}
 use Rattle.std.specs.declared.alloc.Global.{Global}
 use Rattle.frontier.specs.declared.tree.Tree.{Tree, Branch, Chain}
 use Rattle.frontier.specs.declared.tree.Tree.TheVariants.{Leaf, Branch', Chain'}
-use Rattle.frontier.specs.declared.tree.Task.{Task}
 use Rattle.frontier.specs.declared.tree.Frame.{Frame as FrameOf}
 use Rattle.frontier.specs.declared.tree.Found.{Found}
 use Rattle.book.specs.declared.Book.{Book}
 use Rattle.frontier.specs.declared.stop.Stop.{Stop}
 use Rattle.frontier.specs.declared.stop.Stop.TheVariants.{Nodes, Variables, Stores}
-use Rattle.bank.specs.Kinds.{Kind, Condition, Assignment}
+use Rattle.bank.specs.Kinds.{Kind}
 use Rattle.book.specs.Language.{Goal, Rules}
-use Rattle.machine.specs.Machine.{Side, Frame, Answer, State, Tree as MachineTree, leaf, branch, chain, Step, turn, taken_up, step_branch, step_chain, leaf_from}
+use Rattle.machine.specs.Machine.{Frame, Answer, State, Tree as MachineTree, leaf, branch, chain, Step, step_branch, step_chain, leaf_from}
 use Rattle.bank.specs.Views.{Meaning}
-use Rattle.frontier.specs.Books.{Reads, Copies}
+use Rattle.frontier.specs.Books.{Reads}
 use Rattle.frontier.specs.Frames.{list_of, Sized}
-use Rattle.frontier.specs.Trees.{In, Apart, leaves, Kept, Tasked, Stands, Left, Answers, Given, Holds, held, Among, Elsewhere}
+use Rattle.frontier.specs.Trees.{In, Apart, leaves, Stands, Left, Answers, Given, Elsewhere}
 use Rattle.frontier.specs.Steps.{Ready, Went, Stops, TakesUp}
 
 module _ (K : Kind) (V : ℕ) (book : Book) (m : Meaning) where

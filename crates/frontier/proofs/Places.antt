@@ -1,10 +1,10 @@
 -- What a place of the book says of the goal that it stands for. Assumes nothing.
-use Rattle.std.proofs.Common.{◌≡◌, ℕ, suc, ◌+◌, ◌<◌, ◌≤◌, length, sym, refl, ◌∙◌, arith}
+use Rattle.std.proofs.Common.{◌≡◌, ℕ, suc, ◌<◌, ◌≤◌, length, sym, refl, ◌∙◌, arith}
 use Rattle.book.specs.declared.Book.{Book}
 use Rattle.book.specs.declared.Form.TheVariants.{Tell, And, Or, New, Call}
 use Rattle.book.specs.Language.{Goal, tell, conj, disj, fresh, call}
 use Rattle.book.specs.Meaning.{book_nodes, book_rules}
-use Rattle.book.specs.Table.{goal_at, scope_at, InScope, Below, Stands}
+use Rattle.book.specs.Table.{goal_at, InScope, Below, Stands}
 use Rattle.line.specs.declared.Call.{Call as CallOf}
 use Rattle.line.specs.declared.Tell.{Tell as TellOf}
 use Rattle.line.specs.Slots.{slots_of}

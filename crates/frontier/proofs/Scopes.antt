@@ -1,12 +1,12 @@
 -- What a run reaches speaks only of variables that are there. Assumes nothing.
-use Rattle.std.proofs.Common.{◌≡◌, ℕ, zero, suc, ◌<◌, ◌≤◌, List, [], ◌∷◌, ◌++◌, length, get_or, Some, None, Option, sym, refl, ap, ◌∙◌, subst, arith}
+use Rattle.std.proofs.Common.{ℕ, suc, List, length, get_or, Some, None, Option, sym, refl, ◌∙◌, subst, arith}
 use lib.ListN.{length-map}
 use Rattle.book.specs.Language.{Each}
 use Rattle.bank.specs.Kinds.{Kind}
-use Rattle.book.specs.Language.{Goal, Rule, Rules, Fits, WellFormed, rule_at}
+use Rattle.book.specs.Language.{Rule, Rules, Fits, WellFormed, rule_at}
 use Rattle.machine.proofs.Frames.{Below, below_later, below_push, frame_push, slots_below}
 use Rattle.machine.specs.Theorems.{RuleFits}
-use Rattle.machine.specs.Machine.{left, right, Frame, Answer, State, Tree as MachineTree, leaf, branch, chain, Step, vars_of_lem, upto, posed, Run, begin, next, Entry, noted, turn, taken_up}
+use Rattle.machine.specs.Machine.{Frame, Answer, State, Tree as MachineTree, Step, upto, posed, Run, begin, next, Entry}
 use Rattle.machine.specs.Machine.{step_tell_lem, step_fail, step_conj, step_disj, step_fresh, step_call, step_branch, step_chain}
 use Rattle.machine.proofs.Lists.{each_append}
 use Rattle.machine.proofs.Shapes.{s_tell}

@@ -17,9 +17,8 @@
 --   TellDoes   what telling a leaf's store does
 --   Seconds    what making a store for the other side of a branch does
 --   TakesUp    what remains of a chain in memory when an answer is taken up
-use Rattle.std.specs.Prelude.{◌≡◌, ℕ, ◌+◌, ◌<◌, ◌≤◌, Bool, true, false, ◌&&◌, ◌⊎◌, List, length, is_some, Some, None, Ok, Err, Option, Result, Box}
+use Rattle.std.specs.Prelude.{◌≡◌, ℕ, ◌+◌, ◌<◌, ◌≤◌, Bool, true, false, ◌&&◌, ◌⊎◌, length, is_some, Some, None, Ok, Err, Option, Result, Box}
 use Rattle.std.specs.declared.alloc.Global.{Global}
-use Rattle.bank.specs.declared.Refusal.{Refusal as BankRefusal}
 use Rattle.bank.specs.declared.Refusal.TheVariants.{NoSpare}
 use Rattle.bank.specs.Calls.{Unchanged, Forks, Accepted, Released}
 use Rattle.bank.specs.Kinds.{Kind, Condition, Assignment, holds_at, well_formed, in_range}

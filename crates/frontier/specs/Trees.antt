@@ -19,12 +19,12 @@
 --   AllApart    no two of them are one
 --   Elsewhere   every live store but some is as it was
 --   Cleared     some stores have ended, and the others are as they were
-use Rattle.std.specs.Prelude.{◌≡◌, ℕ, ◌+◌, ◌<◌, ◌≤◌, Bool, true, false, ◌⊎◌, List, length, Some, None, Option}
+use Rattle.std.specs.Prelude.{◌≡◌, ℕ, ◌+◌, ◌≤◌, Bool, true, false, ◌⊎◌, List, length, Some, None, Option}
 use Rattle.bank.specs.Kinds.{Kind, Condition, Assignment, solves}
 use Rattle.bank.specs.Views.{Meaning}
 use Rattle.book.specs.declared.Book.{Book}
 use Rattle.book.specs.Language.{Goal}
-use Rattle.machine.specs.Machine.{Side, Frame, Answer, State, Tree as MachineTree, leaf, branch, chain}
+use Rattle.machine.specs.Machine.{Frame, Answer, State, Tree as MachineTree, leaf, branch, chain}
 use Rattle.frontier.specs.declared.tree.Tree.{Tree}
 use Rattle.frontier.specs.declared.tree.Tree.TheVariants.{Leaf, Branch', Chain'}
 use Rattle.frontier.specs.declared.tree.Task.{Task}

@@ -4,7 +4,7 @@ use lib.ListN.{length-map}
 use Rattle.bank.specs.Kinds.{Value, Kind, Solves}
 use Rattle.book.specs.Language.{Rule, Rules, WellFormed, Each}
 use Rattle.machine.specs.Machine.{Answer, State, Entry, Run, begin, next, posed, upto}
-use Rattle.machine.specs.Derivations.{choices, AllAdmitted, solutions, Occurs}
+use Rattle.machine.specs.Derivations.{AllAdmitted, solutions, Occurs}
 use Rattle.machine.specs.Theorems.{RuleFits, Derived, Sound}
 use Rattle.machine.proofs.Lists.{each_append, each_map}
 use Rattle.machine.proofs.Shapes.{leads_choices}

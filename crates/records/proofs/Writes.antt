@@ -1,10 +1,10 @@
 -- What a write to one slot does to the meaning. Assumes nothing.
-use Rattle.std.proofs.Common.{◌≡◌, ℕ, ◌+◌, ◌<◌, ◌≤◌, Bool, true, false, ◌&&◌, List, [], length, set, sym, refl, ap, ◌∙◌}
+use Rattle.std.proofs.Common.{◌≡◌, ℕ, ◌+◌, ◌<◌, true, false, ◌&&◌, List, length, set, refl, ap, ◌∙◌}
 use Rattle.bank.specs.Kinds.{Kind, Condition, Assignment, Solutions, holds_at, well_formed, in_range}
 use Rattle.bank.specs.Views.{Meaning}
 use Rattle.bank.specs.Calls.{Unchanged, Others, Added, Accepted, KeptAll, Released}
 use Rattle.records.specs.declared.slots.Slot.{Slot}
-use Rattle.records.specs.Slots.{live_at, noted, means}
+use Rattle.records.specs.Slots.{live_at, means}
 use Rattle.records.proofs.Places.{live_here, live_there, noted_here, noted_there}
 
 pub unchanged : (m : Meaning) → Unchanged m m

@@ -1,5 +1,5 @@
 -- One step of a search, from one step of its tree. Assumes nothing.
-use Rattle.std.proofs.Common.{◌≡◌, ℕ, suc, ◌+◌, ◌<◌, ◌≤◌, Bool, true, false, ◌⊎◌, List, [], ◌∷◌, ◌++◌, length, Some, None, vec_len, vec_capacity, Option, Vec, Box, sym, refl, ap, ◌∙◌, subst, inl, inr, add-one, arith}
+use Rattle.std.proofs.Common.{◌≡◌, ℕ, ◌+◌, ◌<◌, ◌≤◌, Bool, true, false, List, length, Some, None, vec_len, vec_capacity, Option, Vec, Box, sym, refl, ap, ◌∙◌, subst, inl, inr, add-one, arith}
 use Rattle.std.proofs.lemmas.Bool.{both_ways, false≢true}
 use Rattle.std.specs.declared.alloc.Global.{Global}
 use Rattle.frontier.specs.declared.tree.Tree.{Tree}
@@ -9,18 +9,16 @@ use Rattle.frontier.specs.declared.tree.Found.{Found}
 use Rattle.search.specs.declared.Search.{Search}
 use Rattle.frontier.specs.declared.stop.Stop.{Stop}
 use Rattle.frontier.specs.declared.stop.Stop.TheVariants.{Nodes, Variables, Stores}
-use Rattle.bank.specs.Kinds.{Kind, Assignment}
+use Rattle.bank.specs.Kinds.{Kind}
 use Rattle.book.specs.Language.{Goal, tell, conj, disj, fresh, call, Rule, Rules}
 use Rattle.book.specs.Meaning.{book_nodes}
 use Rattle.machine.specs.Machine.{Answer, State, Tree as MachineTree, leaf, branch, chain, Entry, Step, Run, next, noted}
 use Rattle.machine.specs.Machine.{step_tell_lem, step_fail, step_conj, step_disj, step_fresh, step_call, step_branch, step_chain}
 use Rattle.bank.specs.Views.{Meaning, View}
-use Rattle.bank.specs.Calls.{Unchanged}
-use Rattle.frontier.specs.Trees.{boxes, leaves, next_goal_lem, In, Apart, Kept, Stands, Left, Answers, Given, Holds, held, Among, standing, AllApart, Elsewhere}
+use Rattle.frontier.specs.Trees.{boxes, next_goal_lem, In, Stands, Left, Given, Holds, held, Among, standing, AllApart}
 use Rattle.frontier.specs.Steps.{Ready, Went, Stops, Stayed, Next, adds, AtFresh, AtOr}
-use Rattle.search.specs.Calls.{Mine, Latest, WaitsAs, StandsFor, Good, Untouched, NoneLeft, Same, SteppedTo, OneMore, NoMore, Barred, NoneFresh, NoneForked, below, nodes}
-use Rattle.frontier.proofs.Scopes.{run_fine, ScopedLeft}
-use Rattle.frontier.proofs.Moves.{frame}
+use Rattle.search.specs.Calls.{Mine, WaitsAs, StandsFor, Good, NoneLeft, SteppedTo, OneMore, NoMore, Barred, below, nodes}
+use Rattle.frontier.proofs.Scopes.{run_fine}
 
 -- A state that is going on.
 pub record Going {S : Type 0} (v : View S) (s : Search S) (rules : Rules) (T : State) : Type 0 where

@@ -1,14 +1,12 @@
 -- How a run goes on. Assumes nothing.
-use Rattle.std.proofs.Common.{◌≡◌, ℕ, suc, ◌+◌, ◌^◌, ◌<◌, ◌≤◌, Bool, true, false, ◌⊎◌, List, [], ◌∷◌, ◌++◌, Some, None, Option, sym, refl, ap, ◌∙◌, subst, inl, inr, arith}
+use Rattle.std.proofs.Common.{◌≡◌, ℕ, ◌+◌, ◌^◌, ◌<◌, ◌≤◌, true, List, [], ◌∷◌, ◌++◌, Some, None, Option, sym, refl, ◌∙◌, subst, inl, inr, arith}
 use Rattle.std.proofs.lemmas.Bool.{both_ways, cases_Bool}
-use Rattle.frontier.specs.declared.tree.Tree.{Tree}
 use Rattle.frontier.specs.declared.tree.Found.{Found}
 use Rattle.search.specs.declared.Search.{Search}
-use Rattle.bank.specs.Kinds.{Kind, Assignment}
-use Rattle.book.specs.Language.{Goal, Rule, Rules}
-use Rattle.machine.specs.Machine.{Answer, State, Tree as MachineTree, Entry}
-use Rattle.bank.specs.Views.{Meaning, View}
-use Rattle.search.specs.Calls.{Mine, StandsFor, Good, Untouched, NoneLeft}
+use Rattle.book.specs.Language.{Rule, Rules}
+use Rattle.machine.specs.Machine.{Answer, State, Entry}
+use Rattle.bank.specs.Views.{View}
+use Rattle.search.specs.Calls.{StandsFor, Good, Untouched, NoneLeft}
 use Rattle.frontier.specs.Trees.{Answers}
 
 -- The answers since a run began: none, or that which waits.

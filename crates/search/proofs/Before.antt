@@ -1,10 +1,10 @@
 -- Stores that were live before new are never touched. Assumes nothing.
-use Rattle.std.proofs.Common.{◌≡◌, ℕ, Bool, true, ◌⊎◌, Ok, Err, Option, sym, refl, ap, ◌∙◌, subst, inl, inr}
+use Rattle.std.proofs.Common.{Bool, Ok, Err, Option, ap, ◌∙◌, subst, inl, inr}
 use Rattle.frontier.specs.declared.tree.Found.{Found}
 use Rattle.search.specs.declared.Search.{Search}
-use Rattle.bank.specs.Views.{Meaning, View}
+use Rattle.bank.specs.Views.{View}
 use Rattle.frontier.specs.Trees.{Among, Holds}
-use Rattle.search.specs.Calls.{Untouched as OneCall, NewDoes}
+use Rattle.search.specs.Calls.{Untouched as OneCall}
 use Rattle.search.specs.History.{History, made, posed, ran, wrote, took}
 use Rattle.search.specs.Promise.{Untouched}
 use Rattle.search.proofs.Refused.{refused_runs}

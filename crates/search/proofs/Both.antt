@@ -1,25 +1,25 @@
 -- The promise for any two histories, from the theory of the machine. Assumes nothing.
-use Rattle.std.proofs.Common.{◌≡◌, ℕ, ◌+◌, ◌<◌, ◌≤◌, min, Bool, true, false, cond, leb, ◌≢◌, ◌⊎◌, List, [], ◌∷◌, ◌++◌, map, Some, None, Option, sym, refl, ap, ◌∙◌, subst, inl, inr, append_assoc, arith, leb-true}
+use Rattle.std.proofs.Common.{◌≡◌, ℕ, ◌≤◌, min, Bool, true, false, cond, leb, ◌≢◌, ◌⊎◌, List, [], ◌∷◌, ◌++◌, Some, None, Option, sym, refl, ap, ◌∙◌, subst, inl, inr, arith, leb-true}
 use borrow.Author.Tests.{false-leb}
 use Rattle.search.specs.declared.Search.{Search}
 use Rattle.frontier.specs.declared.tree.Found.{Found}
 use Rattle.search.specs.Calls.{WaitsAs}
 use Rattle.book.specs.Language.{Each}
-use Rattle.bank.specs.Kinds.{Kind, Value, Assignment, solves, Solves}
-use Rattle.book.specs.Language.{Rule, Rules, WellFormed}
+use Rattle.bank.specs.Kinds.{Kind, Value, Assignment, solves}
+use Rattle.book.specs.Language.{Rule, WellFormed}
 use Rattle.machine.specs.Theorems.{RuleFits}
-use Rattle.machine.specs.Machine.{Side, Answer as Given, State, Tree as MachineTree, Run, begin, next, Entry, upto, noted}
-use Rattle.machine.specs.Derivations.{Deriv, weight, choices, Posable, Occurs, solutions}
-use Rattle.machine.specs.Theorems.{till, Derived, FoundOnce}
-use Rattle.machine.proofs.Lists.{each_append, each_map}
-use Rattle.machine.proofs.Determinism.{agree, dated}
+use Rattle.machine.specs.Machine.{Side, State, Run, begin, next, Entry, upto}
+use Rattle.machine.specs.Derivations.{weight, choices, Occurs, solutions}
+use Rattle.machine.specs.Theorems.{till}
+use Rattle.machine.proofs.Lists.{each_append}
+use Rattle.machine.proofs.Determinism.{agree}
 use Rattle.machine.proofs.Completeness.{complete}
 use Rattle.machine.proofs.Soundness.{sound}
 use Rattle.machine.proofs.Values.{Local}
 use Rattle.machine.proofs.Frames.{Below, agree_map}
 use Rattle.bank.specs.Views.{View}
-use Rattle.search.specs.History.{History, Subject, rule_of, Answer, subject, answers, exhausted}
-use Rattle.search.specs.Promise.{by_step, SameAnswer, Alike, Waits, Chosen, AnsweredOnce, Complete, Shown, Sound, Promised, Promise}
+use Rattle.search.specs.History.{Subject, rule_of, Answer, answers, exhausted}
+use Rattle.search.specs.Promise.{by_step, Alike, Waits, Chosen, Complete, Sound, Promise}
 use Rattle.search.proofs.Before.{untouched}
 use Rattle.frontier.proofs.Fill.{narrow, widen}
 use Rattle.frontier.proofs.Scopes.{run_fine}

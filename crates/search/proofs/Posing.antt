@@ -1,20 +1,20 @@
 -- Posing a rule, and taking an answer. Assumes nothing.
-use Rattle.std.proofs.Common.{◌≡◌, ℕ, suc, ◌+◌, ◌<◌, ◌≤◌, Bool, true, false, ◌⊎◌, List, [], ◌∷◌, ◌++◌, length, Some, None, Ok, Err, vec_len, vec_capacity, Option, Vec, Box, sym, refl, ap, ◌∙◌, subst, inl, inr, arith}
+use Rattle.std.proofs.Common.{◌≡◌, ℕ, ◌+◌, ◌<◌, ◌≤◌, Bool, true, false, List, [], length, Some, None, Err, vec_len, vec_capacity, Option, Vec, Box, sym, refl, ap, ◌∙◌, subst, inl, inr, arith}
 use mathlib.Core.Bool.{and-true}
 use Rattle.std.proofs.lemmas.Bool.{both_ways, cases_Bool, false≢true}
 use Rattle.std.specs.declared.alloc.Global.{Global}
 use Rattle.bank.specs.declared.Refusal.{Refusal as BankRefusal}
 use Rattle.bank.specs.declared.Refusal.TheVariants.{NotLive, NoSpare, BadConstraint, BadVariable, Contradiction, TextTooLong}
 use Rattle.bank.specs.Calls.{Unchanged, Released, Added, Opens}
-use Rattle.bank.specs.Kinds.{Kind, Assignment, all_admitted, solves}
+use Rattle.bank.specs.Kinds.{Kind, all_admitted}
 use Rattle.bank.specs.Views.{Meaning, View}
 use Rattle.book.specs.declared.Book.{Book}
 use Rattle.book.specs.declared.Rule.{Rule as RuleOf}
-use Rattle.book.specs.Language.{Goal, Rule, Rules, rule_at}
+use Rattle.book.specs.Language.{Rule, Rules, rule_at}
 use Rattle.book.specs.Listing.{IsBook}
 use Rattle.book.specs.Meaning.{book_nodes, meaning}
 use Rattle.book.specs.Table.{rule_of, Rooted}
-use Rattle.machine.specs.Machine.{Answer, State, Tree as MachineTree, Entry, Run, begin, posed, upto}
+use Rattle.machine.specs.Machine.{State, Entry, begin, posed, upto}
 use Rattle.machine.proofs.Posed.{upto_length}
 use Rattle.machine.proofs.Rules.{own_rules_fit_lem}
 use Rattle.search.specs.declared.Search.{Search}
@@ -23,10 +23,10 @@ use Rattle.frontier.specs.declared.tree.Found.{Found}
 use Rattle.frontier.specs.declared.tree.Frame.{Frame as FrameOf}
 use Rattle.frontier.specs.declared.tree.Tree.{Tree}
 use Rattle.frontier.specs.declared.tree.Tree.TheVariants.{Leaf, Branch', Chain'}
-use Rattle.frontier.specs.Books.{Known, Reads}
-use Rattle.search.specs.Calls.{Mine, Latest, WaitsAs, StandsFor, Good, Untouched, NoneLeft, Same, Takes, Starts, PoseRefused, Emptied}
+use Rattle.frontier.specs.Books.{Known}
+use Rattle.search.specs.Calls.{Mine, WaitsAs, StandsFor, Good, NoneLeft, Same, Takes, Starts, PoseRefused, Emptied}
 use Rattle.frontier.specs.Frames.{list_of, Sized}
-use Rattle.frontier.specs.Trees.{boxes, leaves, In, Apart, Kept, Stands, Left, Answers, Given, Holds, held, Among, standing, AllApart, Elsewhere, Cleared}
+use Rattle.frontier.specs.Trees.{boxes, leaves, In, Apart, Left, Holds, held, Among, standing, AllApart, Elsewhere, Cleared}
 use Rattle.frontier.proofs.Moves.{frame, stands_live}
 use Rattle.search.proofs.Runs.{rebanked, same_rebanked, same_good}
 

@@ -1,7 +1,5 @@
 -- What any history of calls leads to: a run of the machine, with the same answers. Assumes nothing.
-use Rattle.std.proofs.Common.{◌≡◌, ℕ, ◌+◌, ◌<◌, ◌≤◌, Bool, true, false, ◌⊎◌, List, [], ◌∷◌, ◌++◌, Some, None, Ok, Err, Option, Result, sym, refl, ap, ◌∙◌, subst, inl, inr, append-nil, arith}
-use Rattle.book.specs.declared.Book.{Book}
-use Rattle.frontier.specs.declared.tree.Found.{Found}
+use Rattle.std.proofs.Common.{◌≡◌, ℕ, ◌≤◌, Bool, true, List, [], ◌∷◌, ◌++◌, Some, None, Ok, Err, Option, Result, sym, refl, ◌∙◌, subst, inl, inr, append-nil, arith}
 use Rattle.search.specs.declared.Search.{Search}
 use Rattle.search.specs.declared.refusal.Refusal.{Refusal}
 use Rattle.search.specs.declared.refusal.Halt.{Halt}
@@ -9,15 +7,14 @@ use Rattle.frontier.specs.declared.stop.Stop.{Stop}
 use Rattle.search.specs.declared.Outcome.{Outcome}
 use Rattle.search.specs.declared.Outcome.TheVariants.{Answer as Answered, Exhausted, Spent}
 use Rattle.search.specs.declared.Ran.{Ran}
-use Rattle.bank.specs.Kinds.{Kind, Value, Assignment, solves}
-use Rattle.book.specs.Language.{Rule, Rules, WellFormed, rule_at}
-use Rattle.machine.specs.Theorems.{RuleFits}
-use Rattle.machine.specs.Machine.{Answer as Given, State, Tree as MachineTree, Run, begin, next, Step, Entry, noted}
+use Rattle.bank.specs.Kinds.{Kind, Assignment, solves}
+use Rattle.book.specs.Language.{Rule, Rules}
+use Rattle.machine.specs.Machine.{State, Entry}
 use Rattle.machine.proofs.Determinism.{agree}
 use Rattle.search.proofs.Refused.{refused_runs}
 use Rattle.search.proofs.Runs.{same_stands}
-use Rattle.bank.specs.Views.{Meaning, View}
-use Rattle.search.specs.Calls.{StandsFor, Same, NewDoes, PoseDoes, RunHalted, RunDoes, TakeDoes, Ends, Advanced}
+use Rattle.bank.specs.Views.{View}
+use Rattle.search.specs.Calls.{StandsFor, Same, RunHalted, RunDoes, TakeDoes, Advanced}
 use Rattle.search.specs.History.{History, made, posed, ran, wrote, took, Subject, rule_of, Answer, subject, reply, answers, says_end, exhausted}
 
 -- The answers at which runs stopped are those of the machine.

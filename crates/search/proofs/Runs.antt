@@ -1,5 +1,5 @@
 -- How a run ends. Assumes nothing.
-use Rattle.std.proofs.Common.{◌≡◌, ℕ, suc, ◌+◌, ◌<◌, ◌≤◌, Bool, true, false, ◌⊎◌, List, [], ◌∷◌, ◌++◌, Some, None, Ok, Err, vec_len, vec_capacity, Option, sym, refl, ap, ◌∙◌, subst, inl, inr, arith}
+use Rattle.std.proofs.Common.{◌≡◌, ℕ, ◌+◌, ◌<◌, Bool, true, false, List, Some, None, Ok, Err, Option, sym, refl, ap, ◌∙◌, subst, inl, inr, arith}
 use Rattle.frontier.specs.declared.tree.Tree.{Tree}
 use Rattle.book.specs.declared.Book.{Book}
 use Rattle.frontier.specs.declared.tree.Found.{Found}
@@ -11,14 +11,14 @@ use Rattle.search.specs.declared.refusal.Refusal.TheVariants.{NoSuchRule, Unknow
 use Rattle.search.specs.declared.Outcome.{Outcome}
 use Rattle.search.specs.declared.Ran.{Ran}
 use Rattle.search.specs.declared.Outcome.TheVariants.{Answer as Answered, Exhausted, Spent}
-use Rattle.bank.specs.Kinds.{Kind, Assignment}
+use Rattle.bank.specs.Kinds.{Kind}
 use Rattle.book.specs.Language.{Rule, Rules}
 use Rattle.machine.specs.Machine.{Answer, State, Tree as MachineTree, Entry, Run, noted}
 use Rattle.bank.specs.Views.{Meaning, View}
 use Rattle.bank.specs.Calls.{Unchanged}
 use Rattle.frontier.specs.Books.{Copies}
-use Rattle.frontier.specs.Trees.{boxes, Kept, Stands, Left, Answers, Given, Holds, held, Among, standing, AllApart, Elsewhere}
-use Rattle.search.specs.Calls.{Mine, Latest, WaitsAs, StandsFor, Good, Untouched, NoneLeft, Same, SteppedTo, OneMore, NoMore, Barred, NoneForked, Runs, RunHalted, MayRun, StopsBy, RunDoes, halt_at}
+use Rattle.frontier.specs.Trees.{boxes, Left, Given, Holds, held, Among, standing, AllApart, Elsewhere}
+use Rattle.search.specs.Calls.{Mine, WaitsAs, StandsFor, Good, Untouched, NoneLeft, Same, OneMore, NoMore, Barred, Runs, RunHalted, MayRun, StopsBy, RunDoes, halt_at}
 use Rattle.search.specs.Refusals.{halted}
 use Rattle.frontier.proofs.Leaf.{unchanged}
 use Rattle.frontier.proofs.Moves.{frame, nothing_left, some_left}

@@ -1,11 +1,11 @@
 -- The first line with a tell that a bank does not know, among some goals and one more. Assumes nothing.
-use Rattle.std.proofs.Common.{◌≡◌, ℕ, ◌+◌, ◌<◌, ◌≤◌, min, Bool, true, false, leb, ◌⊎◌, List, Some, None, Option, sym, refl, ap, ◌∙◌, subst, inl, inr, eq-or-lt_of_le, arith, below_more, leb-true}
+use Rattle.std.proofs.Common.{◌≡◌, ℕ, ◌+◌, ◌≤◌, min, Bool, true, false, leb, List, Some, None, Option, sym, refl, subst, arith, below_more, leb-true}
 use borrow.Author.Tests.{false-leb}
 use Rattle.std.proofs.lemmas.Bool.{both_ways}
 use Rattle.bank.specs.Kinds.{Kind}
 use Rattle.book.specs.declared.Node.{Node}
 use Rattle.book.specs.Table.{line_at}
-use Rattle.frontier.specs.Books.{knows_at, Known}
+use Rattle.frontier.specs.Books.{knows_at}
 use Rattle.search.specs.Unknowns.{Unknown, UnknownOf, first_line}
 
 module _ (K : Kind) (ns : List Node) (i : ℕ) where

@@ -19,14 +19,14 @@
 --   Emptied     the search holds nothing
 --
 -- A refusal stands with its cause, and with the fact that no earlier cause of its call holds.
-use Rattle.std.specs.Prelude.{◌≡◌, ℕ, ◌+◌, ◌^◌, ◌<◌, ◌≤◌, Bool, true, false, ◌⊎◌, List, [], ◌∷◌, ◌++◌, length, Some, None, Ok, Err, vec_len, vec_capacity, Option, Result, ◌≢◌}
+use Rattle.std.specs.Prelude.{◌≡◌, ℕ, ◌+◌, ◌^◌, ◌<◌, ◌≤◌, true, false, ◌⊎◌, List, [], ◌∷◌, ◌++◌, length, Some, None, Ok, Err, vec_len, vec_capacity, Option, Result, ◌≢◌}
 use Rattle.bank.specs.declared.Refusal.{Refusal as BankRefusal}
 use Rattle.bank.specs.declared.Refusal.TheVariants.{NoSpare}
 use Rattle.bank.specs.Calls.{Unchanged}
 use Rattle.bank.specs.Kinds.{Kind, Assignment}
 use Rattle.bank.specs.Views.{Meaning, View}
 use Rattle.book.specs.declared.Book.{Book}
-use Rattle.book.specs.Language.{Goal, Rule, Rules, rule_at}
+use Rattle.book.specs.Language.{Rule, Rules, rule_at}
 use Rattle.book.specs.Meaning.{book_nodes, meaning}
 use Rattle.book.specs.Table.{line_at}
 use Rattle.machine.specs.Machine.{Answer, State, Tree as MachineTree, leaf, branch, chain, Step, Run, Entry, noted, posed}

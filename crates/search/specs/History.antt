@@ -7,7 +7,7 @@
 --   subject     what the latest accepted pose asked for
 --   answers     the answers since then, in order
 --   exhausted   whether a run has said exhausted since then
-use Rattle.std.specs.Prelude.{◌≡◌, ℕ, Bool, true, false, List, [], ◌∷◌, ◌++◌, Some, None, Ok, Err, Option, Result}
+use Rattle.std.specs.Prelude.{ℕ, Bool, true, false, List, [], ◌∷◌, ◌++◌, Some, None, Ok, Err, Option, Result}
 use Rattle.bank.specs.Kinds.{Solutions}
 use Rattle.bank.specs.Views.{View}
 use Rattle.book.specs.declared.Book.{Book}

@@ -6,7 +6,7 @@ use Rattle.records.specs.declared.slots.Slot.{Slot}
 use Rattle.records.specs.Slots.{Written, holding}
 use Rattle.records.proofs.Places.{written, written_then, written_here, written_there}
 use Rattle.semitones.specs.declared.cells.Record.{Record}
-use Rattle.semitones.specs.Cells.{no_cell, Sized}
+use Rattle.semitones.specs.Cells.{no_cell}
 use Rattle.semitones.specs.Joins.{Same, SizedAt, Copied}
 use Rattle.semitones.specs.laws.Solves.{cell_in, cell_out}
 use Rattle.semitones.specs.laws.Laws.{no_slot, record_at}

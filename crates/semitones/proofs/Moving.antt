@@ -1,10 +1,10 @@
 -- One class put under another, cell by cell, and cells taken into use. Assumes nothing.
-use Rattle.std.proofs.Common.{◌≡◌, ℕ, ◌+◌, ◌<◌, ◌≤◌, Bool, true, false, cond, eqb, List, length, get_or, set, ℤ, pos, ◌+ℤ◌, sym, refl, ap, ◌∙◌, ⊎_elim, arith, length-set}
+use Rattle.std.proofs.Common.{◌≡◌, ℕ, ◌+◌, ◌<◌, ◌≤◌, cond, eqb, length, get_or, set, ℤ, pos, ◌+ℤ◌, sym, refl, ap, ◌∙◌, ⊎_elim, arith, length-set}
 use Rattle.std.proofs.lemmas.List.{get_or-set_same, get_or-set_other}
 use Rattle.std.proofs.lemmas.Bool.{cases_lt, cases_eq, eq-eqb, ne_eqb, cond-true, cond-false}
 use Rattle.semitones.specs.declared.cells.Cell.{Cell}
 use Rattle.semitones.specs.declared.cells.Record.{Record}
-use Rattle.semitones.specs.Cells.{no_cell, cell_of, root_of_lem, by_of, Sized}
+use Rattle.semitones.specs.Cells.{no_cell, cell_of, Sized}
 use Rattle.semitones.specs.Joins.{Same, Moved}
 use Rattle.semitones.specs.laws.Solves.{cell_in, cell_out}
 

@@ -1,5 +1,5 @@
 -- The text of a variable, by its cell. Assumes nothing.
-use Rattle.std.proofs.Common.{◌≡◌, ℕ, zero, suc, ◌+◌, ◌-◌, ◌∷◌, ◌++◌, ℤ, decimal, sym, refl, ap, ◌∙◌, subst, add-one, arith}
+use Rattle.std.proofs.Common.{◌≡◌, ℕ, zero, suc, ◌+◌, ◌-◌, ◌∷◌, ◌++◌, ℤ, decimal, sym, refl, ap, ◌∙◌, add-one, arith}
 use Rattle.std.specs.Fmt.{signed_decimal}
 use Rattle.semitones.specs.declared.cells.Record.{Record}
 use Rattle.semitones.specs.Cells.{root_of_lem, by_of, apart, named, shown}

@@ -1,5 +1,5 @@
 -- What the text of a variable says of the solutions. Assumes nothing.
-use Rattle.std.proofs.Common.{◌≡◌, ℕ, zero, suc, ◌<◌, ◌≤◌, true, List, ℤ, pos, ◌+ℤ◌, sym, refl, ap, ◌∙◌, subst, arith}
+use Rattle.std.proofs.Common.{◌≡◌, ℕ, zero, suc, ◌<◌, true, List, ◌+ℤ◌, sym, refl, ap, ◌∙◌, subst, arith}
 use lib.IntN.{+ℤ_idl}
 use Rattle.bank.specs.Kinds.{number, Assignment, Solutions}
 use Rattle.records.specs.declared.slots.Slot.{Slot}

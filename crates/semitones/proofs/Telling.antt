@@ -1,5 +1,5 @@
 -- What telling answers, by what the edge did to the record. Assumes nothing.
-use Rattle.std.proofs.Common.{◌≡◌, ℕ, ◌<◌, Bool, true, false, ◌&&◌, List, length, get_or, set, Ok, Err, Result, sym, refl, ap, ◌∙◌, subst}
+use Rattle.std.proofs.Common.{◌≡◌, ℕ, Bool, true, ◌&&◌, List, get_or, set, Ok, Err, Result, sym, ap, ◌∙◌, subst}
 use Rattle.std.proofs.lemmas.List.{set-get_or}
 use Rattle.bank.specs.declared.Effect.{Effect}
 use Rattle.bank.specs.declared.Effect.TheVariants.{Kept, Narrowed}

@@ -11,7 +11,7 @@
 --   SizedAt         the cells in use of one slot are there
 --   Begun           a store begins with nothing told
 --   Copied          a store has what another has
-use Rattle.std.specs.Prelude.{◌≡◌, ℕ, true, false, cond, ◌&&◌, List, [], ℤ, ◌+ℤ◌, Ok, Err, Result, ◌==◌, slice_index_or}
+use Rattle.std.specs.Prelude.{◌≡◌, ℕ, false, cond, ◌&&◌, List, ℤ, ◌+ℤ◌, Ok, Err, Result, ◌==◌, slice_index_or}
 use Rattle.bank.specs.declared.Effect.{Effect}
 use Rattle.bank.specs.declared.Effect.TheVariants.{Kept, Narrowed}
 use Rattle.bank.specs.declared.Refusal.{Refusal}

@@ -6,7 +6,7 @@
 --   below    the others
 --   Pushed   one push: full exactly if every slot is in use
 --   Popped   one pop: none exactly if the stack is empty
-use Rattle.std.specs.Prelude.{◌≡◌, ℕ, ◌<◌, ◌≤◌, List, [], ◌∷◌, reverse, length, take, Some, None, Ok, Err, Option, Result, slice_set}
+use Rattle.std.specs.Prelude.{◌≡◌, ℕ, ◌<◌, List, [], ◌∷◌, reverse, length, take, Some, None, Ok, Err, Option, Result, slice_set}
 use Rattle.stack.specs.declared.Stack.{Stack}
 use Rattle.stack.specs.declared.Full.{Full}
 

@@ -1,5 +1,5 @@
 -- A constraint that is decided where the store stands. Assumes nothing.
-use Rattle.std.proofs.Common.{◌≡◌, ℕ, zero, suc, ◌<◌, ◌≤◌, Bool, true, false, not, ◌&&◌, eqb, List, [], ◌∷◌, ◌++◌, sym, refl, ap, ◌∙◌, subst, ⊎_elim, arith}
+use Rattle.std.proofs.Common.{◌≡◌, ℕ, zero, suc, ◌<◌, ◌≤◌, true, false, not, ◌&&◌, eqb, [], ◌∷◌, ◌++◌, sym, refl, ap, ◌∙◌, subst, ⊎_elim, arith}
 use Rattle.std.proofs.lemmas.Bool.{and_from, and_parts, both_ways, cases_eq, cases_lt, eq-eqb, not-true}
 use Rattle.bank.specs.Kinds.{Assignment}
 use Rattle.trees.specs.declared.cells.Form.{Form}
@@ -8,12 +8,12 @@ use Rattle.trees.specs.declared.cells.Store.{Store}
 use Rattle.trees.specs.declared.cells.Equation.{Equation}
 use Rattle.trees.specs.declared.cells.Task.{Task}
 use Rattle.trees.specs.declared.cells.Task.TheVariants.{Equal, Has}
-use Rattle.trees.specs.Stores.{root_of_lem, form_at_lem, form_of, Fits, solves, Solves, Formed, Shaped, Reached}
+use Rattle.trees.specs.Stores.{root_of_lem, form_at_lem, form_of, Fits, solves, Solves, Formed, Reached}
 use Rattle.trees.specs.Values.{ready, deep, Sound}
 use Rattle.trees.specs.Joins.{sides, clash, chosen, flat, leaf, shallow, Moved, Reformed, Joined, Solved}
 use Rattle.trees.specs.Tasks.{asks, Asks, With, Started, Narrowed, Held, Refused}
 use Rattle.trees.specs.laws.Solves.{solves_true, same_test, never_true}
-use Rattle.trees.specs.laws.Shapes.{same_form_of, sound_alike, shaped_alike}
+use Rattle.trees.specs.laws.Shapes.{same_form_of, sound_alike}
 use Rattle.trees.specs.laws.Depths.{ready_more, flat_ready}
 use Rattle.trees.proofs.Meeting.{clashing}
 use Rattle.trees.proofs.Joining.{joined_up, joined_down, levels_up, levels_down}

@@ -1,5 +1,5 @@
 -- The text of a variable, by the form of its class. Assumes nothing.
-use Rattle.std.proofs.Common.{◌≡◌, ℕ, ◌+◌, ◌-◌, ◌<◌, ◌≤◌, true, [], ◌∷◌, ◌++◌, ℤ, pos, negsuc, nat_abs, decimal, ap, ◌∙◌, subst, arith, w32, SFits}
+use Rattle.std.proofs.Common.{◌≡◌, ℕ, ◌-◌, ◌<◌, ◌≤◌, true, [], ◌∷◌, ◌++◌, ℤ, pos, negsuc, nat_abs, decimal, ap, ◌∙◌, subst, arith, w32, SFits}
 use Rattle.std.specs.Fmt.{signed_decimal}
 use Rattle.std.proofs.lemmas.Bool.{and_parts}
 use Rattle.trees.specs.declared.cells.Form.{Form}

@@ -1,5 +1,5 @@
 -- The books that the texts of the table are read as. Assumes nothing.
-use Rattle.std.proofs.Common.{◌≡◌, List, [], ◌∷◌, pos, codes, refl}
+use Rattle.std.proofs.Common.{◌≡◌, [], ◌∷◌, pos, codes, refl}
 use Prim.Native.String.{String}
 use Rattle.std.specs.Fmt.{digits}
 use Rattle.numeral.specs.Reads.{as_number, as_negative, as_signed}

@@ -1,12 +1,12 @@
 -- What every tell to a store answers, and the two tells of the table. Assumes nothing.
-use Rattle.std.proofs.Common.{◌≡◌, ℕ, zero, suc, true, false, ◌&&◌, List, [], ◌∷◌, ◌++◌, ℤ, pos, Ok, Err, Result, sym, refl, ap, ◌∙◌, ⊎_elim, arith}
+use Rattle.std.proofs.Common.{◌≡◌, ℕ, zero, suc, true, false, ◌&&◌, List, [], ◌∷◌, ◌++◌, ℤ, pos, Ok, Err, sym, refl, ap, ◌∙◌, ⊎_elim, arith}
 use borrow.Author.Differences.{ints}
 use Rattle.std.proofs.lemmas.Bool.{both_ways, cases_Bool}
 use Rattle.bank.specs.declared.Effect.{Effect}
 use Rattle.bank.specs.declared.Effect.TheVariants.{Kept, Narrowed}
 use Rattle.bank.specs.declared.Refusal.{Refusal}
 use Rattle.bank.specs.declared.Refusal.TheVariants.{NotLive, NoSpare, BadConstraint, BadVariable, Contradiction, TextTooLong}
-use Rattle.bank.specs.Calls.{Tells, Accepted}
+use Rattle.bank.specs.Calls.{Accepted}
 use Rattle.bank.specs.Kinds.{number, Condition, Assignment, holds_at, well_formed, in_range}
 use Rattle.bank.specs.Numbers.{number as number_of_refusal}
 use Rattle.bank.specs.Views.{Meaning}

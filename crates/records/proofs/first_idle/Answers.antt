@@ -1,5 +1,5 @@
 -- Why `first_idle` finds the first idle slot.
-use Rattle.std.proofs.Common.{◌≡◌, ◌<◌, false, not, length, get_or, count_by, sym, ap, ◌∙◌, arith}
+use Rattle.std.proofs.Common.{◌<◌, not, length, count_by, sym, ap, ◌∙◌, arith}
 use Rattle.std.proofs.lemmas.List.{take_all}
 use Rattle.std.proofs.lemmas.List.Sums.{count_by_more_no}
 use Rattle.records.specs.Slots.{idle}

@@ -1,4 +1,4 @@
-use Rattle.std.proofs.Common.{◌≡◌, ◌+◌, ◌<◌, get_or, sym, ap, ◌∙◌, arith}
+use Rattle.std.proofs.Common.{◌≡◌, ◌+◌, get_or, sym, ap, ◌∙◌, arith}
 use Rattle.book.specs.declared.Rule.{Rule}
 use Rattle.book.specs.Language.{size, rule_at}
 use Rattle.book.specs.Meaning.{book_nodes, book_rules, meaning}

@@ -1,4 +1,4 @@
-use Rattle.std.proofs.Common.{sym, ap, subst}
+use Rattle.std.proofs.Common.{sym, subst}
 use Rattle.std.proofs.lemmas.List.{get_or-take}
 use Rattle.book.specs.declared.Node.{Node}
 use Rattle.book.specs.Meaning.{book_nodes, book_rules}

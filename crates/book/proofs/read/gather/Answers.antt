@@ -1,4 +1,3 @@
-use Rattle.std.proofs.Common.{sym, ◌∙◌}
 use Rattle.book.proofs.Gathering.{gathers_more}
 use Rattle.book.proofs.read.gather.Goals as goal
 

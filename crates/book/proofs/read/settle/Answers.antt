@@ -1,9 +1,9 @@
-use Rattle.std.proofs.Common.{◌≡◌, sym, refl, ap, ◌∙◌}
+use Rattle.std.proofs.Common.{sym, ap, ◌∙◌}
 use Rattle.std.proofs.lemmas.Result.{err_from_is_err_and}
 use Rattle.book.specs.declared.refusal.Refusal.{Refusal}
 use Rattle.book.specs.Drafts.{parsed, entries}
 use Rattle.book.specs.Reading.{refused}
-use Rattle.book.proofs.Settling.{reading_stopped, reading_misfit, reading_book}
+use Rattle.book.proofs.Settling.{reading_stopped, reading_misfit}
 use Rattle.book.proofs.read.settle.Goals as goal
 
 -- a refusal, as it is handed on

@@ -1,5 +1,5 @@
-use Rattle.std.proofs.Common.{refl, ◌∙◌, arith, length-set, rules}
-use Rattle.frontier.proofs.Frames.{slots_inside, select_more}
+use Rattle.std.proofs.Common.{◌∙◌, length-set}
+use Rattle.frontier.proofs.Frames.{select_more}
 use Rattle.frontier.proofs.frame.select.Goals as goal
 
 pub loop-i-preserved : goal.loop-i-preserved

@@ -1,5 +1,5 @@
 -- Each way through a step of a branch or a chain. Assumes nothing.
-use Rattle.std.proofs.Common.{◌≡◌, Box, sym, refl, ap, ◌∙◌, subst, rules}
+use Rattle.std.proofs.Common.{Box, refl, ap, ◌∙◌, rules}
 use Rattle.frontier.specs.declared.tree.Tree.{Tree}
 use Rattle.std.specs.declared.alloc.Global.{Global}
 use Rattle.frontier.proofs.Moves.{branch_ended, branch_on, chain_ended, chain_on, chain_taken, sub_as, whole}

@@ -1,5 +1,5 @@
 -- Each way through a leaf's step. Assumes nothing.
-use Rattle.std.proofs.Common.{◌≡◌, ◌≤◌, vec_len, sym, refl, ap, ◌∙◌, arith, rules}
+use Rattle.std.proofs.Common.{◌≤◌, vec_len, sym, refl, ◌∙◌, rules}
 use Rattle.std.proofs.lemmas.Result.{err_from_is_err_and}
 use Rattle.std.proofs.lemmas.Bool.{ltb-true, ltb-false, eqb-true, eqb-false}
 use Rattle.frontier.proofs.Leaf.{ready_at, went_at, went_as, unchanged, goal_inside, store_live, frame_sized, frame_room, telling, call_scope, told_went, told_boxed, conj_went, disj_went, fresh_went, call_went, or_short, and_short, new_full, at_disj, no_second}

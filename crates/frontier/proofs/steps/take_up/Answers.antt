@@ -1,5 +1,5 @@
 -- The leaf takes the chain's place, or goes before it. Assumes nothing.
-use Rattle.std.proofs.Common.{◌≡◌, Bool, sym, refl, ap, ◌∙◌, subst, arith, rules}
+use Rattle.std.proofs.Common.{Bool, sym, ap, ◌∙◌, subst, arith, rules}
 use Rattle.frontier.specs.Steps.{TakesUp}
 use Rattle.frontier.specs.Trees.{boxes}
 use Rattle.frontier.proofs.steps.take_up.Goals as goal

@@ -1,4 +1,4 @@
-use Rattle.std.proofs.Common.{arith, rules}
+use Rattle.std.proofs.Common.{arith}
 use Rattle.search.proofs.Advance.{one_more, none_left, no_more, step_ready}
 use Rattle.search.proofs.Runs.{same_none_left}
 use Rattle.search.proofs.Search.advance.Goals as goal

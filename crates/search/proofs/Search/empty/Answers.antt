@@ -1,5 +1,5 @@
 -- Each way through releasing what a search holds. Assumes nothing.
-use Rattle.std.proofs.Common.{◌≡◌, sym, refl, ap, ◌∙◌}
+use Rattle.std.proofs.Common.{refl}
 use Rattle.search.proofs.Posing.{Mid, mid_some, mid_none, clearing, emptied_over, emptied_clear}
 use Rattle.search.proofs.Search.empty.Goals as goal
 use Rattle.search.proofs.Search.empty.Goals.{in-Some, in_default}

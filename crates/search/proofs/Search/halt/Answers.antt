@@ -1,5 +1,5 @@
 -- The goal's line is read inside the book. Assumes nothing.
-use Rattle.std.proofs.Common.{sym, subst, arith}
+use Rattle.std.proofs.Common.{arith}
 use Rattle.search.proofs.Advance.{goal_inside}
 use Rattle.search.proofs.Search.halt.Goals as goal
 

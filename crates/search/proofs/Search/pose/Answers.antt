@@ -1,5 +1,5 @@
 -- A rule is posed, or no store is spare. Assumes nothing.
-use Rattle.std.proofs.Common.{◌≡◌, sym, refl, ap, ◌∙◌, arith}
+use Rattle.std.proofs.Common.{arith}
 use Rattle.std.proofs.lemmas.Result.{err_from_is_err_and}
 use Rattle.search.proofs.Posing.{Asked, posing, not_posing}
 use Rattle.search.proofs.Runs.{same_none_left}

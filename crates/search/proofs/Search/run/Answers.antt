@@ -1,5 +1,5 @@
 -- How each way through a run ends. Assumes nothing.
-use Rattle.std.proofs.Common.{◌<◌, refl, ap, ◌∙◌, arith}
+use Rattle.std.proofs.Common.{◌<◌, ap, ◌∙◌, arith}
 use Rattle.search.specs.declared.refusal.Halt.{Halt}
 use Rattle.search.specs.Refusals.{halted}
 use Rattle.search.proofs.Runs.{same_good, stopped, along_on}

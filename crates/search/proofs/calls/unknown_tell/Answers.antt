@@ -1,5 +1,5 @@
 -- One goal more. Assumes nothing.
-use Rattle.std.proofs.Common.{◌≡◌, ℕ, ◌+◌, Option, sym, refl, ap, ◌∙◌, subst}
+use Rattle.std.proofs.Common.{◌≡◌, ℕ, ◌+◌, Option, sym, ap, ◌∙◌, subst}
 use Rattle.book.specs.declared.Form.{Form}
 use Rattle.book.specs.Meaning.{book_nodes}
 use Rattle.frontier.specs.Books.{known, knows_at}

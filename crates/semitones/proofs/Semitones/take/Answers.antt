@@ -6,8 +6,8 @@ use Rattle.semitones.proofs.Semitones.take.Goals as goal
 
 pub invariant_of-replace : goal.invariant_of-replace
 invariant_of-replace c = record {
-      small = omega arith;
-      counted = refl;
-      linked = ∣ line_none ∣₁;
-      kept = (λ i past e. absurd (false≢true e));
-    }
+  small = omega arith;
+  counted = refl;
+  linked = ∣ line_none ∣₁;
+  kept = (λ i past e. absurd (false≢true e));
+}

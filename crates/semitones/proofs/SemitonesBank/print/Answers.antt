@@ -1,5 +1,5 @@
 -- Why `print` writes the text, or zeroes the part.
-use Rattle.std.proofs.Common.{◌≡◌, ℕ, ◌<◌, [], length, replicate, sym, ap, ◌∙◌, subst}
+use Rattle.std.proofs.Common.{ℕ, ◌<◌, [], length, replicate, sym, ap, ◌∙◌, subst}
 use Rattle.records.proofs.Places.{live_within}
 use Rattle.texts.specs.Pieces.{Laid}
 use Rattle.texts.proofs.Laying.{laid_none, laid_front, laid_rest}

@@ -1,5 +1,5 @@
 -- Why `release` ends a store.
-use Rattle.std.proofs.Common.{◌+◌, true, List, get_or, set, sym, refl, subst, arith}
+use Rattle.std.proofs.Common.{◌+◌, true, List, get_or, sym, refl, subst, arith}
 use Rattle.bank.specs.Calls.{Released}
 use Rattle.records.specs.declared.slots.Slot.{Slot}
 use Rattle.records.specs.Slots.{ended}

@@ -1,11 +1,11 @@
 -- Why `join` answers and changes the record as the edge says.
-use Rattle.std.proofs.Common.{◌≡◌, ℕ, ◌<◌, ◌≤◌, ◌≢◌, ℤ, ◌+ℤ◌, ◌-ℤ◌, sym, refl, ap, ◌∙◌, subst, arith, w32, to_z, of_z}
+use Rattle.std.proofs.Common.{◌≡◌, ℕ, ◌<◌, ◌≤◌, ◌≢◌, ℤ, sym, ap, ◌∙◌, subst, arith, w32, to_z, of_z}
 use lib.Signed.{mag}
 use Rattle.std.proofs.lemmas.Int.{to_z-of_z}
 use Rattle.semitones.specs.declared.cells.Cell.{Cell}
 use Rattle.semitones.specs.declared.cells.Edge.{Edge}
 use Rattle.semitones.specs.declared.cells.Record.{Record}
-use Rattle.semitones.specs.Cells.{root_of_lem, by_of, Sound}
+use Rattle.semitones.specs.Cells.{by_of, Sound}
 use Rattle.semitones.specs.Joins.{Same, Moved}
 use Rattle.semitones.specs.laws.Bounds.{far}
 use Rattle.semitones.proofs.Moving.{moved_after}

@@ -1,5 +1,5 @@
 -- Why `write` writes the text of a variable.
-use Rattle.std.proofs.Common.{◌≡◌, ℕ, ◌-◌, List, ◌∷◌, ℤ, Some, decimal, ap, ◌∙◌, subst, w32, SFits, rules}
+use Rattle.std.proofs.Common.{ℕ, ◌-◌, List, ◌∷◌, ℤ, Some, decimal, ap, ◌∙◌, subst, w32, SFits, rules}
 use Rattle.std.specs.Fmt.{signed_decimal}
 use Rattle.std.proofs.lemmas.Int.{to_z-of_z}
 use Rattle.texts.specs.Pieces.{Adds}

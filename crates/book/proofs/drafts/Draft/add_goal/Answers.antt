@@ -1,5 +1,4 @@
-use Rattle.std.proofs.Common.{◌≡◌, ◌+◌, ◌<◌, [], ◌∷◌, ◌++◌, length, sym, refl, ap, ◌∙◌, append-nil, arith, length-set}
-use Rattle.line.specs.Slots.{says}
+use Rattle.std.proofs.Common.{◌≡◌, ◌<◌, [], ◌∷◌, ◌++◌, length, sym, refl, ap, ◌∙◌, append-nil, arith, length-set}
 use Rattle.book.specs.declared.drafts.Listed.{Listed}
 use Rattle.book.specs.Drafts.{entries}
 use Rattle.book.specs.Lists.{entry_of}
