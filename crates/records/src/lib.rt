@@ -26,6 +26,7 @@ pub fn idle_all<R: Copy>(slots: &mut [Slot<R>]) -> u16
 }
 
 // The first slot with no store, or none exactly if there is none. It walks over the slots: a bank takes the one that is first in line.
+#[tactic(auto, using(crate::proofs::Places::live_is))]
 pub fn first_idle<R: Copy>(slots: &[Slot<R>]) -> Option<u16>
     requires { length slots.now ≤ 1024 }
     ensures { MatchOption result (count_by idle slots.now ≡ 0) (λ i. (i < length slots.now) × (live_at slots.now i ≡ false)) }

@@ -3,13 +3,7 @@ use Rattle.std.proofs.Common.{◌<◌, not, length, count_by, sym, ap, ◌∙◌
 use Rattle.std.proofs.lemmas.List.{take_all}
 use Rattle.std.proofs.lemmas.List.Sums.{count_by_more_no}
 use Rattle.records.specs.Slots.{idle}
-use Rattle.records.proofs.Places.{live_is}
 use Rattle.records.proofs.first_idle.Goals as goal
-
-pub returns-then-not-slots-i : goal.returns-then-not-slots-i
-returns-then-not-slots-i g c =
-    let l : c.loop-i.i < length c.args.slots.now = omega arith in
-    (l, live_is c.args.slots.now c.loop-i.i _ l ∙ c.if-not-slots-i.true)
 
 pub loop-i-preserved : goal.loop-i-preserved
 loop-i-preserved g c =
