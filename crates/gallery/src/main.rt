@@ -24,6 +24,7 @@ const BOOKS: [(&str, Over); 20] = [
     ("doubles.book", Over::Trees),
     ("echo.book", Over::Trees),
     ("echo_late.book", Over::Trees),
+    ("endless.book", Over::Trees),
     ("melody.book", Over::Trees),
     ("member.book", Over::Trees),
     ("palindrome.book", Over::Trees),
@@ -33,7 +34,6 @@ const BOOKS: [(&str, Over); 20] = [
     ("scale.book", Over::Semitones),
     ("steps.book", Over::Semitones),
     ("sums.book", Over::Trees),
-    ("tolls.book", Over::Trees),
     ("waits.book", Over::Semitones),
 ];
 

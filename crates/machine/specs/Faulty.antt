@@ -2,10 +2,10 @@
 --
 --   Turns           a way to take turns, and so TakesUp of the answers of a chain's tree
 --   StepWith        one step of a machine with such ways of its own; its leaves step as the true ones
---   late_turn_lem       the other tree has the next turn only after an answer
---   rest_first_lem      the rest goes before the leaf that takes up an answer
---   LateTurn        the true step but for late-turn
---   RestFirst       the true step but for rest-first
+--   late_turn_lem   the other tree has the next turn only after an answer
+--   rest_first_lem  the rest goes before the leaf that takes up an answer
+--   LateTurn        the true step but for late_turn_lem
+--   RestFirst       the true step but for rest_first_lem
 --   SameOtherwise   with the true turn and the true taken_up it is the true step
 use Rattle.std.specs.Prelude.{ℕ, List, Some, None, Option}
 use Rattle.bank.specs.Kinds.{Condition, Kind}

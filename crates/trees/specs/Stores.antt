@@ -1,6 +1,6 @@
 -- What a store's record says. Assumes nothing.
 --
---   root-of, form-at    the class of a variable, by its lowest variable, and the form that stands at a variable
+--   root_of_lem, form_at_lem    the class of a variable, by its lowest variable, and the form that stands at a variable
 --   form_of             what is known of a variable's class
 --   solves              the solutions of a store
 -- and, for the contracts of private functions:

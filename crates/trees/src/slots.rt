@@ -95,7 +95,7 @@ fn tell_aside(
     Ok(Effect::Narrowed)
 }
 
-// Tells a store. Where pairs have to be joined, that is done in the idle slot that is first in line, and only where none is idle on a copy.
+// Tells a store. What does not show at once is worked out in the idle slot that is first in line, and only where none is idle on a copy.
 pub fn tell(
     slots: &mut [Slot<Store>],
     head: u16,

@@ -1,5 +1,5 @@
-// Tells one store. What can be decided without joining pairs is decided where the store stands. The rest is worked out on a copy, since a
-// contradiction may show late, and must leave the store as it was.
+// Tells one store. What shows at once is decided where the store stands. The rest is worked out apart from it, since a contradiction may
+// show late, and must leave the store as it was.
 ghost use Rattle.std.specs.Prelude.{◌≡◌, ◌<◌};
 ghost use Rattle.trees.specs.Stores.{Formed, Shaped};
 ghost use Rattle.trees.specs.Values.{Sound};
@@ -92,7 +92,7 @@ fn decide_equal(r: &mut Store, x: u16, y: u16) -> Option<Result<Effect, Refusal>
     None
 }
 
-// Tells a store what a constraint asks, unless pairs have to be joined for it.
+// Tells a store what a constraint asks, unless more than the classes that it names has to be looked at.
 pub fn decide(r: &mut Store, t: Task) -> Option<Result<Effect, Refusal>>
     requires sound { Sound r.old }
     requires proper { Proper 256 t }
