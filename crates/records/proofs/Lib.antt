@@ -1,5 +1,5 @@
 pub mod Places
 pub mod Counts
-pub mod Lines
+pub mod Listings
 pub mod Writes
 pub mod Orders

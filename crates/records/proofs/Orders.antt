@@ -1,61 +1,71 @@
 -- What a bank keeps of its slots, as one is written. Assumes nothing.
-use Rattle.std.proofs.Common.{◌≡◌, ℕ, ◌+◌, ◌-◌, ◌<◌, ◌≤◌, true, false, List, length, get_or, set, count_by, sym, refl, ◌∙◌, arith, length-set}
+use Rattle.std.proofs.Common.{◌≡◌, ℕ, ◌+◌, ◌-◌, ◌<◌, ◌≤◌, true, false, List, length, get_or, set, count_by, sym, ◌∙◌, arith, length-set}
 use Rattle.std.proofs.lemmas.List.Sums.{count_by-le-length}
-use Rattle.std.proofs.lemmas.Bool.{false≢true}
+use Rattle.std.proofs.lemmas.Bool.{both_ways}
 use Rattle.records.specs.declared.slots.Slot.{Slot}
-use Rattle.records.specs.Slots.{idle, live_at, next_at, holding, begun, ended, Line, Linked, Keeps}
-use Rattle.records.proofs.Places.{live_is, next_is, keeps_set}
-use Rattle.records.proofs.Lines.{line_of, head_within, head_free, line_begun, line_ended, line_same}
+use Rattle.records.specs.Slots.{idle, live_at, holding, Listing, Listed, Keeps}
+use Rattle.records.proofs.Places.{live_is, live_within, keeps_set}
+use Rattle.records.proofs.Counts.{count_ended}
+use Rattle.records.proofs.Listings.{listing_of, last_within, last_free, listing_begun, listing_ended, listing_same}
 
--- at most 1,024 slots, the idle ones in line from `head` on, and every store's record has a property
-pub record Orderly {R : Type 0} (P : R → Type 0) (slots : List (Slot R)) (head spare : ℕ) : Type 0 where
+-- at most 1,024 slots, of which `spare` are idle and listed, and every store's record has a property
+pub record Orderly {R : Type 0} (P : R → Type 0) (slots : List (Slot R)) (numbers : List ℕ) (spare : ℕ) : Type 0 where
   pub small : length slots ≤ 1024
   pub counted : spare ≡ count_by idle slots
-  pub linked : Linked slots head spare
+  pub listed : Listed slots numbers spare
   pub kept : Keeps P slots
 
-module _ {R : Type 0} (P : R → Type 0) (slots : List (Slot R)) (head spare : ℕ) (O : Orderly P slots head spare) where
-  line : Line slots head spare
-  line = line_of slots head spare O.linked
+module _ {R : Type 0} (P : R → Type 0) (slots : List (Slot R)) (numbers : List ℕ) (spare : ℕ) (O : Orderly P slots numbers spare) where
+  listing : Listing slots numbers spare
+  listing = listing_of slots numbers spare O.listed
 
-  -- the first in line is a place, and idle
-  pub first_within : 0 < spare → head < length slots
-  first_within = head_within slots head spare line
+  -- the last of the numbers is a place, and idle
+  pub first_within : 0 < spare → get_or numbers (spare - 1) 0 < length slots
+  first_within = last_within slots numbers spare listing
 
-  pub first_free : 0 < spare → live_at slots head ≡ false
-  first_free = head_free slots head spare line
+  pub first_free : 0 < spare → live_at slots (get_or numbers (spare - 1) 0) ≡ false
+  first_free = last_free slots numbers spare listing
 
   -- there is room for one more in 16 bits
   pub few_spare : spare ≤ 1024
   few_spare = omega (arith, O.small, O.counted, count_by-le-length idle slots)
 
-  pub orderly_begun : (r : R) (past : Slot R) → 0 < spare → P r → Orderly P (set slots head (begun (holding r (get_or slots head past)))) (next_at slots head) (spare - 1)
-  orderly_begun r past p has =
-      let y = begun (holding r (get_or slots head past)) in
+  -- and where a store stands, not all are idle
+  pub room_left : (s : ℕ) (y : Slot R) → live_at slots s ≡ true → y.live ≡ false → spare < 1024
+  room_left s y was is = omega (arith, O.small, O.counted, count_ended slots s y (live_within slots s was) was is, count_by-le-length idle (set slots s y), length-set slots s y)
+
+  pub orderly_begun : (y : Slot R) → 0 < spare → y.live ≡ true → P y.record → Orderly P (set slots (get_or numbers (spare - 1) 0) y) numbers (spare - 1)
+  orderly_begun y p is has =
+      let L = listing_begun slots numbers spare listing p y is in
       record {
-        small = omega (arith, length-set slots head y, O.small);
-        counted = (line_begun slots head spare line p y (sym (next_is slots head past (first_within p))) refl).counted;
-        linked = ∣ line_begun slots head spare line p y (sym (next_is slots head past (first_within p))) refl ∣₁;
-        kept = keeps_set slots head y P O.kept (λ e. has);
+        small = omega (arith, length-set slots (get_or numbers (spare - 1) 0) y, O.small);
+        counted = L.counted;
+        listed = ∣ L ∣₁;
+        kept = keeps_set slots (get_or numbers (spare - 1) 0) y P O.kept (λ e. has);
       }
 
-  pub orderly_ended : (s : ℕ) (past : Slot R) → live_at slots s ≡ true → Orderly P (set slots s (ended head (get_or slots s past))) s (spare + 1)
-  orderly_ended s past was =
-      let y = ended head (get_or slots s past) in
+  pub orderly_ended : (s : ℕ) (y : Slot R) → live_at slots s ≡ true → y.live ≡ false → spare < length numbers → Orderly P (set slots s y) (set numbers spare s) (spare + 1)
+  orderly_ended s y was is room =
+      let L = listing_ended slots numbers spare listing s y was is room in
       record {
         small = omega (arith, length-set slots s y, O.small);
-        counted = (line_ended slots head spare line s was y refl refl).counted;
-        linked = ∣ line_ended slots head spare line s was y refl refl ∣₁;
-        kept = keeps_set slots s y P O.kept (λ e. absurd (false≢true e));
+        counted = L.counted;
+        listed = ∣ L ∣₁;
+        kept = keeps_set slots s y P O.kept (λ e. absurd (both_ways y.live is e));
       }
 
-  pub orderly_changed : (s : ℕ) (r : R) (past : Slot R) → s < length slots → (live_at slots s ≡ true → P r) → Orderly P (set slots s (holding r (get_or slots s past))) head spare
-  orderly_changed s r past l has =
-      let y = holding r (get_or slots s past) in
+  pub orderly_changed : (s : ℕ) (y : Slot R) → s < length slots → y.live ≡ live_at slots s → (y.live ≡ true → P y.record) → Orderly P (set slots s y) numbers spare
+  orderly_changed s y l live has =
+      let L = listing_same slots numbers spare listing s y l live in
+      record {
+        small = omega (arith, length-set slots s y, O.small);
+        counted = L.counted;
+        listed = ∣ L ∣₁;
+        kept = keeps_set slots s y P O.kept has;
+      }
+
+  -- a slot holds another record
+  pub orderly_held : (s : ℕ) (r : R) (past : Slot R) → s < length slots → (live_at slots s ≡ true → P r) → Orderly P (set slots s (holding r (get_or slots s past))) numbers spare
+  orderly_held s r past l has =
       let live = live_is slots s past l in
-      record {
-        small = omega (arith, length-set slots s y, O.small);
-        counted = (line_same slots head spare line s y l (sym live) (sym (next_is slots s past l))).counted;
-        linked = ∣ line_same slots head spare line s y l (sym live) (sym (next_is slots s past l)) ∣₁;
-        kept = keeps_set slots s y P O.kept (λ e. has (live ∙ e));
-      }
+      orderly_changed s (holding r (get_or slots s past)) l (sym live) (λ e. has (live ∙ e))

@@ -1,9 +1,9 @@
 -- What stands at a place, also after a write to one slot. Assumes nothing.
-use Rattle.std.proofs.Common.{◌≡◌, ℕ, ◌<◌, ◌≤◌, true, false, List, map, length, get_or, set, sym, ap, ◌∙◌, subst, ⊎_elim, arith, length-set}
+use Rattle.std.proofs.Common.{◌≡◌, ℕ, ◌<◌, ◌≤◌, true, false, List, map, length, get_or, set, sym, refl, ap, ◌∙◌, subst, ⊎_elim, arith, length-set}
 use Rattle.std.proofs.lemmas.List.{length-map, get_or-map, map-set, get_or_past, get_or-set_same, get_or-set_other, set-set, set_past, same_lists, get_or_default}
 use Rattle.std.proofs.lemmas.Bool.{cases_lt, cases_eq, false≢true}
 use Rattle.records.specs.declared.slots.Slot.{Slot}
-use Rattle.records.specs.Slots.{live_at, next_at, noted, Keeps, Written, Elsewhere}
+use Rattle.records.specs.Slots.{live_at, noted, Keeps, Written, SameRecords, Elsewhere}
 
 -- what is seen of the slot at a place
 module _ {R A : Type 0} (f : Slot R → A) (none : A) (slots : List (Slot R)) (i : ℕ) where
@@ -28,9 +28,6 @@ module _ {R : Type 0} (slots : List (Slot R)) (i : ℕ) where
   pub live_is : (past : Slot R) → i < length slots → live_at slots i ≡ (get_or slots i past).live
   live_is = seen_is (λ s. s.live) false slots i
 
-  pub next_is : (past : Slot R) → i < length slots → next_at slots i ≡ (get_or slots i past).next
-  next_is = seen_is (λ s. s.next) 0 slots i
-
   pub noted_is : {A : Type 0} (none : A) (f : R → A) (past : Slot R) → i < length slots → noted none f slots i ≡ f (get_or slots i past).record
   noted_is none f = seen_is (λ s. f s.record) none slots i
 
@@ -49,15 +46,6 @@ module _ {R : Type 0} (slots : List (Slot R)) (i : ℕ) where
 
     pub live_same : i < length slots → y.live ≡ live_at slots i → (k : ℕ) → live_at (set slots i y) k ≡ live_at slots k
     live_same = seen_same (λ s. s.live) false slots i y
-
-    pub next_here : i < length slots → next_at (set slots i y) i ≡ y.next
-    next_here = seen_here (λ s. s.next) 0 slots i y
-
-    pub next_there : (k : ℕ) → (k ≡ i → ⊥) → next_at (set slots i y) k ≡ next_at slots k
-    next_there = seen_there (λ s. s.next) 0 slots i y
-
-    pub next_same : i < length slots → y.next ≡ next_at slots i → (k : ℕ) → next_at (set slots i y) k ≡ next_at slots k
-    next_same = seen_same (λ s. s.next) 0 slots i y
 
     pub noted_here : {A : Type 0} (none : A) (f : R → A) → i < length slots → noted none f (set slots i y) i ≡ f y.record
     noted_here none f = seen_here (λ s. f s.record) none slots i y
@@ -110,3 +98,20 @@ module _ {R : Type 0} (at : ℕ) (f : Slot R → Slot R) (slots after : List (Sl
 
   pub written_there : (k : ℕ) → (k ≡ at → ⊥) → get_or after k past ≡ get_or slots k past
   written_there k ne = ap (λ (xs : List (Slot R)). get_or xs k past) (W past) ∙ get_or-set_other slots at k (f (get_or slots at past)) past ne
+
+-- records stay, as slots are written
+pub same_none : {R : Type 0} (slots : List (Slot R)) → SameRecords slots slots
+same_none slots = record { long = refl; same = λ i past. refl }
+
+pub same_more :
+    {R : Type 0} (slots after : List (Slot R)) (i : ℕ) (y : Slot R) → SameRecords slots after → i < length after
+    → ((past : Slot R) → y.record ≡ (get_or after i past).record) → SameRecords slots (set after i y)
+same_more slots after i y S l e = record {
+  long = length-set after i y ∙ S.long;
+  same = λ k past. ⊎_elim
+      (λ (q : k ≡ i).
+      ap (λ (n : ℕ). (get_or (set after i y) n past).record) q ∙ ap (λ (s : Slot _). s.record) (get_or-set_same after i y past l) ∙ e past
+      ∙ ap (λ (n : ℕ). (get_or after n past).record) (sym q) ∙ S.same k past)
+      (λ ne. ap (λ (s : Slot _). s.record) (get_or-set_other after i k y past ne) ∙ S.same k past)
+      (cases_eq k i);
+}

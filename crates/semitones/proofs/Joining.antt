@@ -181,16 +181,16 @@ module _ (r s : Record) (p q from to : ℕ) (d g : ℤ) (S : Sound r) (lp : p < 
 
     pub back_again : solves s σ ≡ true → (solves r σ ≡ true) × (node σ p ≡ node σ q +ℤ d)
     back_again ok =
-        let at_s = solves_at s σ ok in
-        let sf : node σ from ≡ node σ to +ℤ by_of s from = subst (λ (x : ℕ). node σ from ≡ node σ x +ℤ by_of s from) (in_root from from_top) (at_s from in_from) in
+        let at-s = solves_at s σ ok in
+        let sf : node σ from ≡ node σ to +ℤ by_of s from = subst (λ (x : ℕ). node σ from ≡ node σ x +ℤ by_of s from) (in_root from from_top) (at-s from in_from) in
         let zero_by : by_of s from ≡ pos 0 +ℤ g = in_by from from_top ∙ ap (λ (x : ℤ). x +ℤ g) from_flat in
         let shifted : node σ from ≡ node σ to +ℤ g = sf ∙ ap (λ (x : ℤ). node σ to +ℤ x) (zero_by ∙ +ℤ_idl g) in
         let at_r : (a : ℕ) → a < 257 → node σ a ≡ node σ (root_of_lem r a) +ℤ by_of r a = λ a h. ⊎_elim
         (λ (i : root_of_lem r a ≡ from).
-        let xa : node σ a ≡ node σ to +ℤ by_of s a = subst (λ (x : ℕ). node σ a ≡ node σ x +ℤ by_of s a) (in_root a i) (at_s a h) in
+        let xa : node σ a ≡ node σ to +ℤ by_of s a = subst (λ (x : ℕ). node σ a ≡ node σ x +ℤ by_of s a) (in_root a i) (at-s a h) in
         subst (λ (x : ℕ). node σ a ≡ node σ x +ℤ by_of r a) (sym i)
         (back (node σ a) (node σ to) (node σ from) (by_of r a) (by_of s a) g xa shifted (in_by a i)))
-        (λ n. at_s a h ∙ ap (λ (x : ℕ). node σ x +ℤ by_of s a) (out_root a n) ∙ ap (λ (x : ℤ). node σ (root_of_lem r a) +ℤ x) (out_by a n))
+        (λ n. at-s a h ∙ ap (λ (x : ℕ). node σ x +ℤ by_of s a) (out_root a n) ∙ ap (λ (x : ℤ). node σ (root_of_lem r a) +ℤ x) (out_by a n))
         (cases_eq (root_of_lem r a) from) in
         let xp : node σ p ≡ node σ to +ℤ by_of r p = subst (λ (x : ℕ). node σ p ≡ node σ x +ℤ by_of r p) rp (at_r p lp) in
         let xq : node σ q ≡ node σ from +ℤ by_of r q = subst (λ (x : ℕ). node σ q ≡ node σ x +ℤ by_of r q) rq (at_r q lq) in

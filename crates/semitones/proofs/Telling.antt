@@ -8,7 +8,7 @@ use Rattle.bank.specs.declared.Refusal.TheVariants.{NotLive, NoSpare, BadConstra
 use Rattle.bank.specs.Kinds.{Assignment, Condition, holds_at}
 use Rattle.bank.specs.Calls.{Tells}
 use Rattle.records.specs.declared.slots.Slot.{Slot}
-use Rattle.records.specs.Slots.{live_at, holding}
+use Rattle.records.specs.Slots.{live_at}
 use Rattle.records.proofs.Places.{live_is, live_within}
 use Rattle.records.proofs.Writes.{unchanged, kept_all, accepted}
 use Rattle.semitones.specs.declared.cells.Edge.{Edge}
@@ -32,7 +32,7 @@ joins_sound r s e (Err TextTooLong) S J = absurd J
 
 -- the slot of store i, with another record
 abbrev pub changed : List (Slot Record) → ℕ → Record → Slot Record
-changed slots i s = holding s (get_or slots i no_slot)
+changed slots i s = record { live = (get_or slots i no_slot).live; «record» = s }
 
 module _ (slots : List (Slot Record)) (spare i : ℕ) (was : live_at slots i ≡ true) where
   pub still_live : (s : Record) → (changed slots i s).live ≡ true

@@ -9,16 +9,14 @@
 --   Refused         the edge never holds
 --   Joins           these three, by the answer
 --   SizedAt         the cells in use of one slot are there
---   Begun           a store begins with nothing told
---   Copied          a store has what another has
-use Rattle.std.specs.Prelude.{◌≡◌, ℕ, false, cond, ◌&&◌, List, ℤ, ◌+ℤ◌, Ok, Err, Result, ◌==◌, slice_index_or}
+--   Begun, Copied   a store begins with nothing told, or with what another has
+use Rattle.std.specs.Prelude.{◌≡◌, ℕ, true, false, cond, ◌&&◌, List, ℤ, ◌+ℤ◌, Ok, Err, Result, ◌==◌, slice_index_or, slice_set}
 use Rattle.bank.specs.declared.Effect.{Effect}
 use Rattle.bank.specs.declared.Effect.TheVariants.{Kept, Narrowed}
 use Rattle.bank.specs.declared.Refusal.{Refusal}
 use Rattle.bank.specs.declared.Refusal.TheVariants.{NotLive, NoSpare, BadConstraint, BadVariable, Contradiction, TextTooLong}
 use Rattle.bank.specs.Kinds.{Assignment, Solutions}
 use Rattle.records.specs.declared.slots.Slot.{Slot}
-use Rattle.records.specs.Slots.{Written, holding, begun}
 use Rattle.semitones.specs.declared.cells.Edge.{Edge}
 use Rattle.semitones.specs.declared.cells.Record.{Record}
 use Rattle.semitones.specs.Whole.{eq_z}
@@ -62,14 +60,16 @@ Joins r s e (Err BadVariable) = ⊥
 Joins r s e (Err TextTooLong) = ⊥
 
 pub record Begun (at : ℕ) (slots after : List (Slot Record)) : Type 0 where
-  pub new : Record
-  pub blank : Blank new
-  pub is : Written at (λ s. begun (holding new s)) slots after
+  pub slot : Slot Record
+  pub is : after ≡ slice_set slots at slot
+  pub live : slot.live ≡ true
+  pub blank : Blank slot.record
 
 abbrev pub SizedAt : ℕ → List (Slot Record) → Type 0
 SizedAt from slots = (past : Slot Record) → Sized (slice_index_or slots from past).record
 
 pub record Copied (from to : ℕ) (slots after : List (Slot Record)) : Type 0 where
-  pub new : Record
-  pub same : (past : Slot Record) → Same (slice_index_or slots from past).record new
-  pub is : Written to (holding new) slots after
+  pub slot : Slot Record
+  pub is : after ≡ slice_set slots to slot
+  pub live : slot.live ≡ true
+  pub same : (past : Slot Record) → Same (slice_index_or slots from past).record slot.record

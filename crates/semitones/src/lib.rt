@@ -7,8 +7,8 @@ mod edges;
 mod names;
 mod slots;
 
-ghost use Rattle.std.specs.Prelude.{◌≡◌, ℕ, ◌<◌, ◌≤◌, min, false, length, count_by};
-ghost use Rattle.records.specs.Slots.{idle, live_at, Linked, Keeps};
+ghost use Rattle.std.specs.Prelude.{◌≡◌, ℕ, ◌-◌, ◌<◌, ◌≤◌, min, false, length, count_by, IfSome, MatchOption, slice_index};
+ghost use Rattle.records.specs.Slots.{idle, live_at, Listed, Keeps};
 ghost use Rattle.semitones.specs.Cells.{Sound, stores};
 ghost use Rattle.semitones.specs.Says.{AllSay};
 ghost use Rattle.semitones.specs.View.{viewed};
@@ -18,20 +18,21 @@ pub use cells::{Cell, Record};
 use classes::join;
 use edges::edge;
 use names::write;
-use records::{Slot, give_back, idle_all, is_live};
+use records::{Slot, idle_all, is_live, numbered};
 use slots::{begin, copy};
-use std::mem;
 use texts::clear;
 
-// The stores lie in lent slots, one in each. `spare` slots are idle, and stand in line from `head` on.
+// The stores lie in lent slots, one in each. `spare` slots are idle, and the first `spare` of the numbers are theirs: the last of these is
+// taken next.
 #[derive(Drop)]
 pub struct Semitones<'a> {
     slots: &'a mut [Slot<Record>],
-    head: u16,
+    numbers: [u16; 1024],
     spare: u16,
     ghost small: { length slots.now ≤ 1024 },
+    ghost room: { length numbers ≡ 1024 },
     ghost counted: { spare ≡ count_by idle slots.now },
-    ghost linked: { Linked slots.now head spare },
+    ghost listed: { Listed slots.now numbers spare },
     ghost kept: { Keeps (λ r. ∥ Sound r ∥₁) slots.now },
 }
 
@@ -46,7 +47,7 @@ impl<'a> Semitones<'a> {
         let spare = idle_all(part);
         Semitones {
             slots: part,
-            head: 0,
+            numbers: numbered(spare),
             spare,
         }
     }
@@ -62,18 +63,14 @@ impl<'a> Semitones<'a> {
         is_live(self.slots, store)
     }
 
-    // Takes the bank out of its place, for a call that changes a slot: from behind `&mut self` the slots cannot be lent on.
-    fn take(&mut self) -> Semitones<'a>
-        ensures { result ≡ self.old }
+    fn first_idle(&self) -> Option<u16>
+        ensures idle { MatchOption result (self.now.spare ≡ 0) (λ i. (i < length self.now.slots.now) × (live_at self.now.slots.now i ≡ false)) }
+        ensures last { IfSome result (λ i. (0 < self.now.spare) × (i ≡ slice_index self.now.numbers (self.now.spare - 1))) }
     {
-        mem::replace(
-            self,
-            Semitones {
-                slots: &mut [],
-                head: 0,
-                spare: 0,
-            },
-        )
+        if self.spare == 0 {
+            return None;
+        }
+        Some(self.numbers[self.spare as usize - 1])
     }
 }
 
@@ -102,28 +99,26 @@ impl<'a> Bank for Semitones<'a> {
     }
 
     fn open(&mut self) -> Result<u16, Refusal> {
-        if self.spare == 0 {
+        let Some(at) = self.first_idle() else {
             return Err(Refusal::NoSpare);
-        }
-        let Semitones { slots, head, spare } = self.take();
-        let next = begin(slots, head);
-        *self = Semitones {
-            slots,
-            head: next,
-            spare: spare - 1,
         };
-        Ok(head)
+        let slots = &mut *self.slots;
+        begin(slots, at as usize);
+        self.spare -= 1;
+        Ok(at)
     }
 
     fn fork(&mut self, store: u16) -> Result<u16, Refusal> {
         if !self.is_live(store) {
             return Err(Refusal::NotLive);
         }
-        let new = self.open()?;
-        let Semitones { slots, head, spare } = self.take();
-        copy(slots, store as usize, new as usize);
-        *self = Semitones { slots, head, spare };
-        Ok(new)
+        let Some(at) = self.first_idle() else {
+            return Err(Refusal::NoSpare);
+        };
+        let slots = &mut *self.slots;
+        copy(slots, store as usize, at as usize);
+        self.spare -= 1;
+        Ok(at)
     }
 
     fn tell(&mut self, store: u16, constraint: &Constraint) -> Result<Effect, Refusal> {
@@ -131,23 +126,17 @@ impl<'a> Bank for Semitones<'a> {
             return Err(Refusal::NotLive);
         }
         let e = edge(constraint)?;
-        let Semitones { slots, head, spare } = self.take();
-        let answer = join(&mut slots[store as usize].record, &e);
-        *self = Semitones { slots, head, spare };
-        answer
+        let slots = &mut *self.slots;
+        join(&mut slots[store as usize].record, &e)
     }
 
     fn release(&mut self, store: u16) -> Result<(), Refusal> {
         if !self.is_live(store) {
             return Err(Refusal::NotLive);
         }
-        let Semitones { slots, head, spare } = self.take();
-        give_back(slots, head, store);
-        *self = Semitones {
-            slots,
-            head: store,
-            spare: spare + 1,
-        };
+        self.slots[store as usize].live = false;
+        self.numbers[self.spare as usize] = store;
+        self.spare += 1;
         Ok(())
     }
 

@@ -1,12 +1,12 @@
 -- A store that begins, and one that takes over what another says, in a bank. Assumes nothing.
-use Rattle.std.proofs.Common.{◌≡◌, ℕ, ◌-◌, ◌<◌, ◌≤◌, Bool, true, List, get_or, set, sym, refl, ap, ◌∙◌, subst, arith}
+use Rattle.std.proofs.Common.{◌≡◌, ℕ, ◌-◌, ◌<◌, ◌≤◌, true, false, List, length, get_or, set, sym, refl, ap, ◌∙◌, subst, arith}
 use Rattle.std.proofs.lemmas.Bool.{both_ways}
 use Rattle.bank.specs.Kinds.{Assignment, Solutions, all_admitted}
 use Rattle.bank.specs.Views.{Meaning}
 use Rattle.bank.specs.Calls.{Added}
 use Rattle.records.specs.declared.slots.Slot.{Slot}
-use Rattle.records.specs.Slots.{live_at, next_at, holding}
-use Rattle.records.proofs.Orders.{Orderly, first_within, first_free, orderly_begun, orderly_changed}
+use Rattle.records.specs.Slots.{live_at, holding, begun}
+use Rattle.records.proofs.Orders.{Orderly, first_within, first_free, orderly_begun, orderly_held}
 use Rattle.records.proofs.Places.{live_is, live_within, live_here}
 use Rattle.records.proofs.Writes.{added, added_changed, has_here, others}
 use Rattle.trees.specs.declared.Trees.{Trees}
@@ -19,26 +19,33 @@ use Rattle.trees.specs.laws.All.{no_slot, record_at, solves_at, sound_at}
 use Rattle.trees.specs.laws.Shapes.{sound_alike, solves_alike}
 use Rattle.trees.proofs.Blanks.{blank_sound, blank_solves}
 
-pub orderly : (b : Trees) → Orderly Kept b.slots.now b.head b.spare
-orderly b = record { small = b.small; counted = b.counted; linked = b.linked; kept = b.kept }
+pub orderly : (b : Trees) → Orderly Kept b.slots.now b.numbers b.spare
+orderly b = record { small = b.small; counted = b.counted; listed = b.listed; kept = b.kept }
 
--- what was found of a bank holds of it, once it is taken out of its place
-pub since : (P : Trees → Type 0) (a b : Trees) → b ≡ a → P a → P b
-since P a b e = subst P (sym e)
+-- the slot that is taken next
+abbrev pub next : Trees → ℕ
+next b = get_or b.numbers (b.spare - 1) 0
 
-pub since_live : (a b : Trees) → b ≡ a → (i : ℕ) (t : Bool) → t ≡ live_at a.slots.now i → live_at b.slots.now i ≡ t
-since_live a b e i t h = since (λ (x : Trees). live_at x.slots.now i ≡ t) a b e (sym h)
+-- a store begins there that has met no variable
+module _ (b : Trees) (p : 0 < b.spare) (at : ℕ) (e : at ≡ next b) where
+  pub next_within : at < length b.slots.now
+  next_within = subst (λ (n : ℕ). n < length b.slots.now) (sym e) (first_within Kept b.slots.now b.numbers b.spare (orderly b) p)
 
--- a store begins that has met no variable
-module _ (b : Trees) (p : 0 < b.spare) (after : List (Slot Store)) (B : Begun b.head b.slots.now after) where
-  pub begun_orderly : Orderly Kept after (next_at b.slots.now b.head) (b.spare - 1)
-  begun_orderly = subst (λ (xs : List (Slot Store)). Orderly Kept xs (next_at b.slots.now b.head) (b.spare - 1)) (sym (B.is no_slot))
-      (orderly_begun Kept b.slots.now b.head b.spare (orderly b) B.new no_slot p ∣ blank_sound B.new B.blank ∣₁)
+  pub next_free : live_at b.slots.now at ≡ false
+  next_free = subst (λ (n : ℕ). live_at b.slots.now n ≡ false) (sym e) (first_free Kept b.slots.now b.numbers b.spare (orderly b) p)
 
-  pub begun_added : Added (means b.slots.now b.spare) (means after (b.spare - 1)) b.head (all_admitted trees 256)
-  begun_added = subst (λ (xs : List (Slot Store)). Added (means b.slots.now b.spare) (means xs (b.spare - 1)) b.head (all_admitted trees 256)) (sym (B.is no_slot))
-      (added solves text_of b.slots.now b.head _ (first_within Kept b.slots.now b.head b.spare (orderly b) p) b.spare (b.spare - 1) (all_admitted trees 256)
-      (first_free Kept b.slots.now b.head b.spare (orderly b) p) refl (blank_solves B.new B.blank) (omega arith))
+  module _ (after : List (Slot Store)) (B : Begun at b.slots.now after) where
+    abbrev new : Slot Store
+    new = begun (holding B.new (get_or b.slots.now at no_slot))
+
+    pub begun_orderly : Orderly Kept after b.numbers (b.spare - 1)
+    begun_orderly = subst (λ (xs : List (Slot Store)). Orderly Kept xs b.numbers (b.spare - 1)) (sym (B.is no_slot))
+        (subst (λ (n : ℕ). Orderly Kept (set b.slots.now n new) b.numbers (b.spare - 1)) (sym e)
+        (orderly_begun Kept b.slots.now b.numbers b.spare (orderly b) new p refl ∣ blank_sound B.new B.blank ∣₁))
+
+    pub begun_added : Added (means b.slots.now b.spare) (means after (b.spare - 1)) at (all_admitted trees 256)
+    begun_added = subst (λ (xs : List (Slot Store)). Added (means b.slots.now b.spare) (means xs (b.spare - 1)) at (all_admitted trees 256)) (sym (B.is no_slot))
+        (added solves text_of b.slots.now at new next_within b.spare (b.spare - 1) (all_admitted trees 256) next_free refl (blank_solves B.new B.blank) (omega arith))
 
 -- a store that was just added takes over what another says
 module _ (m : Meaning) (b : Trees) (from to : ℕ) (f : Solutions) (was : m.live from ≡ true) (A : Added m (means b.slots.now b.spare) to f) where
@@ -59,9 +66,9 @@ module _ (m : Meaning) (b : Trees) (from to : ℕ) (f : Solutions) (was : m.live
         let few : C.new.used ≤ 256 = omega (arith, C.used no_slot, S.shaped.used) in
         sound_alike (record_at b.slots.now from) C.new (C.same no_slot) more few S
 
-    pub copied_orderly : Orderly Kept after b.head b.spare
-    copied_orderly = subst (λ (xs : List (Slot Store)). Orderly Kept xs b.head b.spare) (sym (C.is no_slot))
-        (orderly_changed Kept b.slots.now b.head b.spare (orderly b) to C.new no_slot (live_within b.slots.now to A.is) (λ e. ∣ copied_sound ∣₁))
+    pub copied_orderly : Orderly Kept after b.numbers b.spare
+    copied_orderly = subst (λ (xs : List (Slot Store)). Orderly Kept xs b.numbers b.spare) (sym (C.is no_slot))
+        (orderly_held Kept b.slots.now b.numbers b.spare (orderly b) to C.new no_slot (live_within b.slots.now to A.is) (λ e. ∣ copied_sound ∣₁))
 
     has : (σ : Assignment) → solves C.new σ ≡ m.solutions from σ
     has σ =

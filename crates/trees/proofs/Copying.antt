@@ -2,8 +2,8 @@
 use Rattle.std.proofs.Common.{◌≡◌, ℕ, ◌+◌, ◌<◌, ◌≤◌, List, length, get_or, set, sym, refl, ap, ◌∙◌, subst, arith, length-set}
 use Rattle.std.proofs.lemmas.List.{get_or_default, set-get_or}
 use Rattle.records.specs.declared.slots.Slot.{Slot}
-use Rattle.records.specs.Slots.{Written, holding, begun, next_at}
-use Rattle.records.proofs.Places.{next_is, next_same, written, written_then, written_here, written_there}
+use Rattle.records.specs.Slots.{Written, holding, begun}
+use Rattle.records.proofs.Places.{written, written_then, written_here, written_there}
 use Rattle.trees.specs.declared.cells.Form.{Form}
 use Rattle.trees.specs.declared.cells.Form.TheVariants.{Free}
 use Rattle.trees.specs.declared.cells.Store.{Store}
@@ -72,12 +72,16 @@ module _ (from to : ℕ) (slots after : List (Slot Store)) (i : ℕ) (C : Copyin
         is = renewed r past;
       }
 
--- a record that has met nothing is put into the first in line, and a store begins there
-module _ (slots : List (Slot Store)) (at : ℕ) (l : at < length slots) (past : Slot Store) (r : Store) where
-  pub begun_blank : (after : List (Slot Store)) → r.used ≡ 0 → Written at begun (set slots at (holding r (get_or slots at past))) after → Begun at slots after
-  begun_blank after none W =
-      let y = holding r (get_or slots at past) in
-      record { new = r; blank = none; is = written_then at (holding r) begun slots (set slots at y) after l (written at (holding r) slots past y l refl) W }
-
-  pub begun_next : next_at (set slots at (holding r (get_or slots at past))) at ≡ next_at slots at
-  begun_next = next_same slots at (holding r (get_or slots at past)) l (sym (next_is slots at past l)) at
+-- a record that has met nothing is put into a slot, and a store begins there
+pub begun_blank :
+    (slots : List (Slot Store)) (at : ℕ) → at < length slots → (past other : Slot Store) (r : Store) → r.used ≡ 0
+    → Begun at slots (set (set slots at (holding r (get_or slots at past))) at (begun (get_or (set slots at (holding r (get_or slots at past))) at other)))
+begun_blank slots at l past other r none =
+    let y = holding r (get_or slots at past) in
+    let long : at < length (set slots at y) = omega (arith, length-set slots at y) in
+    record {
+      new = r;
+      blank = none;
+      is = written_then at (holding r) begun slots (set slots at y) _ l (written at (holding r) slots past y l refl)
+          (written at begun (set slots at y) other (begun (get_or (set slots at y) at other)) long refl);
+    }

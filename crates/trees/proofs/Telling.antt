@@ -11,7 +11,7 @@ use Rattle.bank.specs.Views.{Meaning}
 use Rattle.bank.specs.Calls.{Unchanged, Accepted, Tells}
 use Rattle.records.specs.declared.slots.Slot.{Slot}
 use Rattle.records.specs.Slots.{live_at, holding, Keeps}
-use Rattle.records.proofs.Orders.{Orderly, orderly_changed}
+use Rattle.records.proofs.Orders.{Orderly, orderly_held}
 use Rattle.records.proofs.Places.{live_is, live_within, live_same, noted_there, written_there}
 use Rattle.records.proofs.Writes.{unchanged, kept_all, accepted}
 use Rattle.trees.specs.declared.cells.Store.{Store}
@@ -76,10 +76,10 @@ spared_slot : (slots mid : List (Slot Store)) → Spared slots mid → (i : ℕ)
 spared_slot slots mid none i on past = refl
 spared_slot slots mid (one m at held l off W) i on past = written_there at (holding held) slots m W past i (λ q. both_ways (live_at slots at) off (ap (live_at slots) (sym q) ∙ on))
 
-spared_orderly : (slots mid : List (Slot Store)) (head spare : ℕ) → Spared slots mid → Orderly Kept slots head spare → Orderly Kept mid head spare
-spared_orderly slots mid head spare none O = O
-spared_orderly slots mid head spare (one m at held l off W) O =
-    subst (λ (xs : List (Slot Store)). Orderly Kept xs head spare) (sym (W no_slot)) (orderly_changed Kept slots head spare O at held no_slot l (λ on. absurd (both_ways (live_at slots at) off on)))
+spared_orderly : (slots mid : List (Slot Store)) (numbers : List ℕ) (spare : ℕ) → Spared slots mid → Orderly Kept slots numbers spare → Orderly Kept mid numbers spare
+spared_orderly slots mid numbers spare none O = O
+spared_orderly slots mid numbers spare (one m at held l off W) O =
+    subst (λ (xs : List (Slot Store)). Orderly Kept xs numbers spare) (sym (W no_slot)) (orderly_held Kept slots numbers spare O at held no_slot l (λ on. absurd (both_ways (live_at slots at) off on)))
 
 -- what was said of the slots that are written over says the same of those before
 accepted_since : (m k n : Meaning) (s : ℕ) (c : Condition) → Unchanged m k → Accepted trees 256 k n s c → Accepted trees 256 m n s c
@@ -124,10 +124,10 @@ tells_since m k n s c r u t (Err BadVariable) U T X = absurd T
 tells_since m k n s c r u t (Err TextTooLong) U T X = absurd T
 
 -- a store of a bank is told
-module _ (slots : List (Slot Store)) (head spare i : ℕ) (O : Orderly Kept slots head spare) (live : live_at slots i ≡ true) (t : Task) (after : List (Slot Store)) (y : Result Effect Refusal)
+module _ (slots : List (Slot Store)) (numbers : List ℕ) (spare i : ℕ) (O : Orderly Kept slots numbers spare) (live : live_at slots i ≡ true) (t : Task) (after : List (Slot Store)) (y : Result Effect Refusal)
     (X : ToldAt i t slots after y) where
-  calm : Orderly Kept X.mid head spare
-  calm = spared_orderly slots X.mid head spare X.spared O
+  calm : Orderly Kept X.mid numbers spare
+  calm = spared_orderly slots X.mid numbers spare X.spared O
 
   still : live_at X.mid i ≡ true
   still = (spared_unchanged slots X.mid spare X.spared).live i ∙ live
@@ -135,9 +135,9 @@ module _ (slots : List (Slot Store)) (head spare i : ℕ) (O : Orderly Kept slot
   told : Told (get_or X.mid i no_slot).record X.new t y
   told = subst (λ (s : Slot Store). Told s.record X.new t y) (sym (spared_slot slots X.mid X.spared i live no_slot)) (X.told no_slot)
 
-  pub told_orderly : Orderly Kept after head spare
-  told_orderly = subst (λ (xs : List (Slot Store)). Orderly Kept xs head spare) (sym (X.is no_slot))
-      (orderly_changed Kept X.mid head spare calm i X.new no_slot (live_within X.mid i still)
+  pub told_orderly : Orderly Kept after numbers spare
+  told_orderly = subst (λ (xs : List (Slot Store)). Orderly Kept xs numbers spare) (sym (X.is no_slot))
+      (orderly_held Kept X.mid numbers spare calm i X.new no_slot (live_within X.mid i still)
       (λ e. ∣ told_sound (get_or X.mid i no_slot).record X.new t y (sound_at X.mid i still no_slot calm.kept) told ∣₁))
 
   pub told_tells : (c : Condition) → Asked c t → Tells trees 256 (means slots spare) (means after spare) i c y

@@ -11,8 +11,8 @@ mod tasks;
 mod tells;
 mod text;
 
-ghost use Rattle.std.specs.Prelude.{◌≡◌, ℕ, ◌<◌, ◌≤◌, min, true, false, length, count_by};
-ghost use Rattle.records.specs.Slots.{idle, live_at, Linked, Keeps};
+ghost use Rattle.std.specs.Prelude.{◌≡◌, ℕ, ◌-◌, ◌<◌, ◌≤◌, min, true, false, length, count_by, IfSome, MatchOption, slice_index};
+ghost use Rattle.records.specs.Slots.{idle, live_at, Listed, Keeps};
 ghost use Rattle.trees.specs.Kind.{trees};
 ghost use Rattle.trees.specs.Values.{Kept};
 ghost use Rattle.trees.specs.Meaning.{means};
@@ -21,21 +21,21 @@ ghost use Rattle.trees.specs.laws.All.{tree_laws};
 
 use bank::{Bank, Constraint, Effect, Refusal};
 pub use cells::{Form, Store};
-use records::{Slot, give_back, idle_all, is_live};
-use slots::{begin, copy, fewer, more, tell};
-use std::mem;
+use records::{Slot, idle_all, is_live, numbered};
+use slots::{begin, copy, more, tell};
 use tasks::task;
 use text::{refuse, write};
 
-// Stores in lent slots, one in each. `spare` slots are idle, and stand in line from `head` on.
+// Stores in lent slots, one in each. `spare` slots are idle, and the first `spare` of the numbers are theirs: the last of these is taken next.
 #[derive(Drop)]
 pub struct Trees<'a> {
     slots: &'a mut [Slot<Store>],
-    head: u16,
+    numbers: [u16; 1024],
     spare: u16,
     ghost small: { length slots.now ≤ 1024 },
+    ghost room: { length numbers ≡ 1024 },
     ghost counted: { spare ≡ count_by idle slots.now },
-    ghost linked: { Linked slots.now head spare },
+    ghost listed: { Listed slots.now numbers spare },
     ghost kept: { Keeps Kept slots.now },
 }
 
@@ -50,7 +50,7 @@ impl<'a> Trees<'a> {
         let spare = idle_all(part);
         Trees {
             slots: part,
-            head: 0,
+            numbers: numbered(spare),
             spare,
         }
     }
@@ -66,24 +66,15 @@ impl<'a> Trees<'a> {
         is_live(self.slots, store)
     }
 
-    fn is_full(&self) -> bool
-        ensures { (result ≡ true → self.now.spare ≡ 0) × (result ≡ false → 0 < self.now.spare) }
+    // A slot for a new store.
+    fn vacant(&self) -> Option<u16>
+        ensures idle { MatchOption result (self.now.spare ≡ 0) (λ i. (i < length self.now.slots.now) × (live_at self.now.slots.now i ≡ false)) }
+        ensures last { IfSome result (λ i. (0 < self.now.spare) × (i ≡ slice_index self.now.numbers (self.now.spare - 1))) }
     {
-        self.spare == 0
-    }
-
-    // Takes the bank out of its place, for a call that changes a slot: from behind `&mut self` the slots cannot be lent on.
-    fn take(&mut self) -> Trees<'a>
-        ensures { result ≡ self.old }
-    {
-        mem::replace(
-            self,
-            Trees {
-                slots: &mut [],
-                head: 0,
-                spare: 0,
-            },
-        )
+        if self.spare == 0 {
+            return None;
+        }
+        Some(self.numbers[self.spare as usize - 1])
     }
 }
 
@@ -112,17 +103,13 @@ impl<'a> Bank for Trees<'a> {
     }
 
     fn open(&mut self) -> Result<u16, Refusal> {
-        if self.is_full() {
+        let Some(at) = self.vacant() else {
             return Err(Refusal::NoSpare);
-        }
-        let Trees { slots, head, spare } = self.take();
-        let next = begin(slots, head);
-        *self = Trees {
-            slots,
-            head: next,
-            spare: fewer(spare),
         };
-        Ok(head)
+        let slots = &mut *self.slots;
+        begin(slots, at as usize);
+        self.spare -= 1;
+        Ok(at)
     }
 
     fn fork(&mut self, store: u16) -> Result<u16, Refusal> {
@@ -130,9 +117,8 @@ impl<'a> Bank for Trees<'a> {
             return Err(Refusal::NotLive);
         }
         let new = self.open()?;
-        let Trees { slots, head, spare } = self.take();
+        let slots = &mut *self.slots;
         copy(slots, store as usize, new as usize);
-        *self = Trees { slots, head, spare };
         Ok(new)
     }
 
@@ -140,13 +126,9 @@ impl<'a> Bank for Trees<'a> {
         if !self.has(store) {
             return Err(Refusal::NotLive);
         }
-        let Trees { slots, head, spare } = self.take();
-        give_back(slots, head, store);
-        *self = Trees {
-            slots,
-            head: store,
-            spare: more(spare),
-        };
+        self.slots[store as usize].live = false;
+        self.numbers[self.spare as usize] = store;
+        self.spare = more(self.spare);
         Ok(())
     }
 
@@ -155,10 +137,9 @@ impl<'a> Bank for Trees<'a> {
             return Err(Refusal::NotLive);
         }
         let t = task(constraint)?;
-        let Trees { slots, head, spare } = self.take();
-        let answer = tell(slots, head, spare, store, t);
-        *self = Trees { slots, head, spare };
-        answer
+        let aside = self.vacant();
+        let slots = &mut *self.slots;
+        tell(slots, aside, store, t)
     }
 
     fn print(&self, store: u16, var: u16, part: &mut [u8]) -> Result<usize, Refusal> {

@@ -1,6 +1,7 @@
 // Changes slots in place, only in the part in use.
-ghost use Rattle.std.specs.Prelude.{◌≡◌, ◌+◌, ◌-◌, ◌<◌, ◌≤◌, true, false, length, ◌≢◌};
-ghost use Rattle.records.specs.Slots.{live_at, next_at};
+ghost use Rattle.std.specs.Prelude.{◌≡◌, ◌+◌, ◌<◌, ◌≤◌, true, false, length, ◌≢◌};
+ghost use Rattle.std.specs.Option.{ForSome};
+ghost use Rattle.records.specs.Slots.{live_at};
 ghost use Rattle.trees.specs.Stores.{Put};
 ghost use Rattle.trees.specs.Tasks.{Proper};
 ghost use Rattle.trees.specs.Meaning.{Begun, Copied, FewAt, SoundAt, ToldAside, ToldAt};
@@ -10,7 +11,7 @@ use crate::classes::alike;
 use crate::store::narrow;
 use crate::tells::{decide, tell_copied};
 use bank::{Effect, Refusal};
-use records::{Slot, take_idle};
+use records::Slot;
 
 fn wipe(r: &mut Store)
     ensures { r.new.used ≡ 0 }
@@ -26,14 +27,6 @@ fn put(r: &mut Store, i: usize, root: u16, form: Form)
     r.forms[i] = form;
 }
 
-// How many can be made, after one more was made.
-pub fn fewer(spare: u16) -> u16
-    requires { 0 < spare }
-    ensures { result ≡ spare - 1 }
-{
-    spare - 1
-}
-
 // How many can be made, after one has ended.
 pub fn more(spare: u16) -> u16
     requires { spare ≤ 1024 }
@@ -42,14 +35,13 @@ pub fn more(spare: u16) -> u16
     1 + spare
 }
 
-// Begins a store that has met no variable, in the idle slot that is first in line, and answers which is first then.
-pub fn begin(slots: &mut [Slot<Store>], head: u16) -> u16
-    requires { head < length slots.old }
-    ensures begun { Begun head slots.old slots.new }
-    ensures next { result ≡ next_at slots.old head }
+// Begins a store that has met no variable.
+pub fn begin(slots: &mut [Slot<Store>], at: usize)
+    requires { at < length slots.old }
+    ensures { Begun at slots.old slots.new }
 {
-    wipe(&mut slots[head as usize].record);
-    take_idle(slots, head)
+    wipe(&mut slots[at].record);
+    slots[at].live = true;
 }
 
 // Gives a slot a record that says what another says.
@@ -95,16 +87,15 @@ fn tell_aside(
     Ok(Effect::Narrowed)
 }
 
-// Tells a store. What does not show at once is worked out in the idle slot that is first in line, and only where none is idle on a copy.
+// Tells a store. What does not show at once is worked out in an idle slot, and only where none is idle on a copy.
 pub fn tell(
     slots: &mut [Slot<Store>],
-    head: u16,
-    spare: u16,
+    aside: Option<u16>,
     store: u16,
     t: Task,
 ) -> Result<Effect, Refusal>
     requires live { live_at slots.old store ≡ true }
-    requires first { 0 < spare → (head < length slots.old) × (live_at slots.old head ≡ false) }
+    requires aside { ForSome aside (λ i. (i < length slots.old) × (live_at slots.old i ≡ false)) }
     requires sound { SoundAt store slots.old }
     requires proper { Proper 256 t }
     ensures { ToldAt store t slots.old slots.new result }
@@ -112,8 +103,8 @@ pub fn tell(
     if let Some(answer) = decide(&mut slots[store as usize].record, t) {
         return answer;
     }
-    if spare == 0 {
-        return tell_copied(&mut slots[store as usize].record, t);
+    match aside {
+        None => tell_copied(&mut slots[store as usize].record, t),
+        Some(i) => tell_aside(slots, store as usize, i as usize, t),
     }
-    tell_aside(slots, store as usize, head as usize, t)
 }

@@ -57,7 +57,7 @@ module _ (r : Record) (S : Sound r) where
 
 -- what stands past the last slot does not matter
 abbrev pub no_slot : Slot Record
-no_slot = record { live = false; next = 0; «record» = record { used = 0; cells = [] } }
+no_slot = record { live = false; «record» = record { used = 0; cells = [] } }
 
 abbrev pub record_at : List (Slot Record) → ℕ → Record
 record_at slots s = (slice_index_or slots s no_slot).record

@@ -35,7 +35,6 @@ module _ (slots : List (Slot Store)) (i : ℕ) (l : live_at slots i ≡ true) (p
 abbrev pub no_slot : Slot Store
 no_slot = record {
   live = false;
-  next = 0;
   «record» = record { used = 0; roots = replicate 256 0; forms = replicate 256 Free; wide = length-replicate {A = ℕ} 256 0; full = length-replicate 256 Free };
 }
 

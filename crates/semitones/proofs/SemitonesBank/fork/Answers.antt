@@ -1,58 +1,29 @@
 -- Why `fork` makes a store with the solutions of another.
-use Rattle.std.proofs.Common.{sym}
-use Rattle.bank.specs.Kinds.{all_admitted}
-use Rattle.bank.specs.Calls.{Added}
-use Rattle.records.proofs.Places.{live_within}
-use Rattle.semitones.specs.declared.Semitones.{Semitones}
-use Rattle.semitones.specs.Whole.{whole}
+use Rattle.std.proofs.Common.{sym, ◌∙◌}
 use Rattle.semitones.specs.Cells.{stores}
-use Rattle.semitones.proofs.Banks.{since, other, source, sized, copied_orderly, copied_added}
+use Rattle.semitones.specs.laws.Laws.{no_slot, record_at, sound_at, solutions_at}
+use Rattle.semitones.proofs.Banks.{begun_orderly, begun_added}
+use Rattle.semitones.proofs.Blanks.{same_sound, same_solves}
 use Rattle.semitones.proofs.SemitonesBank.fork.Goals as goal
-
-pub copy-requires : goal.copy-requires
-copy-requires c =
-    let a = c.args.self.now in
-    let b = c.take-slots.result in
-    let m = stores a.slots.now a.spare in
-    let from = c.args.store in
-    let to = c.in_ok-new.new in
-    let f = all_admitted whole 256 in
-    let was = sym c.if-not-is_live.ensures in
-    let A = since (λ (x : Semitones). Added m (stores x.slots.now x.spare) to f) c.open.new.self b c.take-slots.ensures c.in_ok-new.ensures in
-    record {
-      source = live_within b.slots.now from (source m b from to f was A);
-      target = live_within b.slots.now to A.is;
-      apart = other m b from to f was A;
-      few = sized m b from to f was A from (source m b from to f was A);
-      room = sized m b from to f was A to A.is;
-    }
 
 pub invariant_of-self : goal.invariant_of-self
 invariant_of-self c =
-    let a = c.args.self.now in
-    let b = c.take-slots.result in
-    let m = stores a.slots.now a.spare in
-    let from = c.args.store in
-    let to = c.in_ok-new.new in
-    let f = all_admitted whole 256 in
-    let was = sym c.if-not-is_live.ensures in
-    let A = since (λ (x : Semitones). Added m (stores x.slots.now x.spare) to f) c.open.new.self b c.take-slots.ensures c.in_ok-new.ensures in
-    let O = copied_orderly m b from to f was A c.copy.new.slots c.copy.ensures in
-    record {
-      small = O.small;
-      counted = O.counted;
-      linked = O.linked;
-      kept = O.kept;
-    }
+    let b = c.args.self.now in
+    let h = c.in-Some.ensures.last in
+    let C = c.copy.ensures in
+    let live = sym c.if-not-is_live.ensures in
+    let O = begun_orderly b h.0 c.in-Some.at h.1 C.slot C.live c.copy.new.slots C.is
+    (same_sound (record_at b.slots.now c.args.store) C.slot.record (C.same no_slot) (sound_at b.slots.now b.kept c.args.store live)) in
+    record { small = O.small; room = b.room; counted = O.counted; listed = O.listed; kept = O.kept }
 
 pub returns : goal.returns
 returns c =
-    let a = c.args.self.now in
-    let b = c.take-slots.result in
-    let m = stores a.slots.now a.spare in
-    let from = c.args.store in
-    let to = c.in_ok-new.new in
-    let f = all_admitted whole 256 in
-    let was = sym c.if-not-is_live.ensures in
-    let A = since (λ (x : Semitones). Added m (stores x.slots.now x.spare) to f) c.open.new.self b c.take-slots.ensures c.in_ok-new.ensures in
-    (was, copied_added m b from to f was A c.copy.new.slots c.copy.ensures)
+    let b = c.args.self.now in
+    let h = c.in-Some.ensures.last in
+    let C = c.copy.ensures in
+    let s = c.args.store in
+    let live = sym c.if-not-is_live.ensures in (
+      live,
+      begun_added b h.0 c.in-Some.at h.1 C.slot C.live c.copy.new.slots C.is ((stores b.slots.now b.spare).solutions s)
+          (λ σ. same_solves (record_at b.slots.now s) C.slot.record (C.same no_slot) σ ∙ sym (solutions_at b.slots.now b.spare s live σ)),
+    )
