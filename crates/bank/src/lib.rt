@@ -66,7 +66,7 @@ pub trait Bank {
     // The kind of values, the number of variables, the meaning of a state, and the laws.
     ghost view: { View Self };
 
-    // V, for proofs: a clause cannot name the constant.
+    // V, as generic code reads it: the contract ties it to the view.
     fn variables() -> usize
         ensures { result ≡ view.variables };
 

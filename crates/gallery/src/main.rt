@@ -1,4 +1,5 @@
-// Runs each book of the folder that it is started in, over the bank that the book is for, and prints what the arranger of that bank prints.
+// Runs the books that it lists, from the folder that it is started in, each over the bank that the book is for, and prints what the arranger
+// of that bank prints.
 #![tactic(auto)]
 
 use arrange::{RECORDS, arrange_text};

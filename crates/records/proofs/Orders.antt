@@ -20,11 +20,11 @@ module _ {R : Type 0} (P : R → Type 0) (slots : List (Slot R)) (numbers : List
   listing = listing_of slots numbers spare O.listed
 
   -- the last of the numbers is a place, and idle
-  pub first_within : 0 < spare → get_or numbers (spare - 1) 0 < length slots
-  first_within = last_within slots numbers spare listing
+  pub taken_within : 0 < spare → get_or numbers (spare - 1) 0 < length slots
+  taken_within = last_within slots numbers spare listing
 
-  pub first_free : 0 < spare → live_at slots (get_or numbers (spare - 1) 0) ≡ false
-  first_free = last_free slots numbers spare listing
+  pub taken_free : 0 < spare → live_at slots (get_or numbers (spare - 1) 0) ≡ false
+  taken_free = last_free slots numbers spare listing
 
   -- there is room for one more in 16 bits
   pub few_spare : spare ≤ 1024

@@ -35,7 +35,7 @@ means solutions text slots spare = record {
   spare = spare;
 }
 
--- what `get_or` gives past the last slot does not matter, since no store stands there
+-- what `slice_index_or` gives past the last slot does not matter, since no store stands there
 abbrev pub Keeps : {R : Type 0} → (R → Type 0) → List (Slot R) → Type 0
 Keeps {R} P slots = (i : ℕ) (past : Slot R) → live_at slots i ≡ true → P (get_or slots i past).record
 
@@ -50,7 +50,7 @@ pub record Listing {R : Type 0} (slots : List (Slot R)) (numbers : List ℕ) (sp
 abbrev pub Listed : {R : Type 0} → List (Slot R) → List ℕ → ℕ → Type 0
 Listed slots numbers spare = ∥ Listing slots numbers spare ∥₁
 
--- what `get_or` gives past the last slot does not matter, since nothing is written there
+-- what `slice_index_or` gives past the last slot does not matter, since nothing is written there
 abbrev pub Written : {R : Type 0} → ℕ → (Slot R → Slot R) → List (Slot R) → List (Slot R) → Type 0
 Written {R} at change slots after = (past : Slot R) → after ≡ slice_set slots at (change (slice_index_or slots at past))
 

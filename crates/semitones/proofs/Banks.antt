@@ -4,7 +4,7 @@ use Rattle.bank.specs.Kinds.{Assignment, Solutions}
 use Rattle.bank.specs.Calls.{Added}
 use Rattle.records.specs.declared.slots.Slot.{Slot}
 use Rattle.records.specs.Slots.{live_at}
-use Rattle.records.proofs.Orders.{Orderly, first_within, first_free, orderly_begun}
+use Rattle.records.proofs.Orders.{Orderly, taken_within, taken_free, orderly_begun}
 use Rattle.records.proofs.Writes.{added}
 use Rattle.semitones.specs.declared.Semitones.{Semitones}
 use Rattle.semitones.specs.declared.cells.Record.{Record}
@@ -23,10 +23,10 @@ next b = get_or b.numbers (b.spare - 1) 0
 
 module _ (b : Semitones) (p : 0 < b.spare) (at : ℕ) (e : at ≡ next b) where
   pub next_within : at < length b.slots.now
-  next_within = subst (λ (n : ℕ). n < length b.slots.now) (sym e) (first_within Kept b.slots.now b.numbers b.spare (orderly b) p)
+  next_within = subst (λ (n : ℕ). n < length b.slots.now) (sym e) (taken_within Kept b.slots.now b.numbers b.spare (orderly b) p)
 
   pub next_free : live_at b.slots.now at ≡ false
-  next_free = subst (λ (n : ℕ). live_at b.slots.now n ≡ false) (sym e) (first_free Kept b.slots.now b.numbers b.spare (orderly b) p)
+  next_free = subst (λ (n : ℕ). live_at b.slots.now n ≡ false) (sym e) (taken_free Kept b.slots.now b.numbers b.spare (orderly b) p)
 
   module _ (y : Slot Record) (is : y.live ≡ true) (after : List (Slot Record)) (w : after ≡ set b.slots.now at y) where
     pub begun_orderly : Sound y.record → Orderly Kept after b.numbers (b.spare - 1)

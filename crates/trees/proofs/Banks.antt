@@ -6,7 +6,7 @@ use Rattle.bank.specs.Views.{Meaning}
 use Rattle.bank.specs.Calls.{Added}
 use Rattle.records.specs.declared.slots.Slot.{Slot}
 use Rattle.records.specs.Slots.{live_at, holding, begun}
-use Rattle.records.proofs.Orders.{Orderly, first_within, first_free, orderly_begun, orderly_held}
+use Rattle.records.proofs.Orders.{Orderly, taken_within, taken_free, orderly_begun, orderly_held}
 use Rattle.records.proofs.Places.{live_is, live_within, live_here}
 use Rattle.records.proofs.Writes.{added, added_changed, has_here, others}
 use Rattle.trees.specs.declared.Trees.{Trees}
@@ -29,10 +29,10 @@ next b = get_or b.numbers (b.spare - 1) 0
 -- a store begins there that has met no variable
 module _ (b : Trees) (p : 0 < b.spare) (at : ℕ) (e : at ≡ next b) where
   pub next_within : at < length b.slots.now
-  next_within = subst (λ (n : ℕ). n < length b.slots.now) (sym e) (first_within Kept b.slots.now b.numbers b.spare (orderly b) p)
+  next_within = subst (λ (n : ℕ). n < length b.slots.now) (sym e) (taken_within Kept b.slots.now b.numbers b.spare (orderly b) p)
 
   pub next_free : live_at b.slots.now at ≡ false
-  next_free = subst (λ (n : ℕ). live_at b.slots.now n ≡ false) (sym e) (first_free Kept b.slots.now b.numbers b.spare (orderly b) p)
+  next_free = subst (λ (n : ℕ). live_at b.slots.now n ≡ false) (sym e) (taken_free Kept b.slots.now b.numbers b.spare (orderly b) p)
 
   module _ (after : List (Slot Store)) (B : Begun at b.slots.now after) where
     abbrev new : Slot Store

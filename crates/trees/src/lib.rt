@@ -66,12 +66,18 @@ impl<'a> Trees<'a> {
         is_live(self.slots, store)
     }
 
+    fn is_full(&self) -> bool
+        ensures { (result ≡ true → self.now.spare ≡ 0) × (result ≡ false → 0 < self.now.spare) }
+    {
+        self.spare == 0
+    }
+
     // A slot for a new store.
     fn vacant(&self) -> Option<u16>
         ensures idle { MatchOption result (self.now.spare ≡ 0) (λ i. (i < length self.now.slots.now) × (live_at self.now.slots.now i ≡ false)) }
         ensures last { IfSome result (λ i. (0 < self.now.spare) × (i ≡ slice_index self.now.numbers (self.now.spare - 1))) }
     {
-        if self.spare == 0 {
+        if self.is_full() {
             return None;
         }
         Some(self.numbers[self.spare as usize - 1])

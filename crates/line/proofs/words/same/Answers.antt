@@ -1,4 +1,4 @@
--- `==` at bytes is `sameBytes`.
+-- Why `==` tells whether two texts have the same bytes.
 use Rattle.std.proofs.Common.{rules}
 use Rattle.std.proofs.lemmas.Slice.Eq.{slice_eq-Decides, bytes_eq-Decides}
 use Rattle.line.proofs.words.same.Goals as goal
