@@ -24,7 +24,7 @@ pub fn idle_all<R: Copy>(slots: &mut [Slot<R>]) -> u16
     spare
 }
 
-// The numbers of so many slots, the first of them last, since numbers are taken from the end.
+// The numbers of so many slots, the first of them last, since numbers are taken from the end. What stands behind them means nothing.
 pub fn numbered(count: u16) -> [u16; 1024]
     requires { count ≤ 1024 }
     ensures room { length result ≡ 1024 }
