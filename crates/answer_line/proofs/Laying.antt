@@ -1,11 +1,11 @@
 -- What a line is made of, and what writing it piece by piece leaves of a buffer. Assumes nothing.
-use Rattle.std.proofs.Common.{◌≡◌, ℕ, zero, suc, ◌+◌, ◌-◌, ◌<◌, ◌≤◌, true, List, [], ◌∷◌, ◌++◌, map, length, take, drop, replicate, Some, None, Ok, Err, Result, sym, refl, ap, ◌∙◌, ap₂, inl, inr, append_assoc, add-one, arith, length-append, length-drop, take-append-drop, length-take}
+use Rattle.std.proofs.Common.{◌≡◌, ℕ, zero, suc, ◌+◌, ◌-◌, ◌<◌, ◌≤◌, List, [], ◌∷◌, ◌++◌, map, length, take, drop, replicate, Some, None, Ok, Err, Result, is_err, true, false, sym, refl, ap, ◌∙◌, ap₂, inl, inr, append_assoc, add-one, arith, length-append, length-drop, take-append-drop, length-take}
 use borrow.Rule.Slice.PartMut.{put_mid}
 use lib.ListN.{length-replicate}
 use Rattle.std.proofs.lemmas.List.FromFn.{map-range_with_len_more}
 use Rattle.std.proofs.lemmas.List.{drop-append-le, drop_at, drop-drop, length-take-le, set_split, take_at}
 use Rattle.std.proofs.lemmas.Slice.{drop-put_mid}
-use Rattle.std.proofs.lemmas.Bool.{both_ways, cases_lt, le-leb, lt-leb}
+use Rattle.std.proofs.lemmas.Bool.{both_ways, false≢true, cases_lt, le-leb, lt-leb}
 use Rattle.std.specs.List.{range_with_len}
 use Rattle.fields.specs.Cutting.{comma, joined}
 use Rattle.bank.specs.Calls.{Printed, Prints}
@@ -14,7 +14,7 @@ use Rattle.bank.specs.declared.Refusal.{Refusal}
 use Rattle.bank.specs.declared.Refusal.TheVariants.{NotLive, NoSpare, BadConstraint, BadVariable, Contradiction, TextTooLong}
 use Rattle.answer_line.specs.declared.Overlong.{Overlong}
 use Rattle.answer_line.specs.declared.Overlong.TheVariants.{Comma, Text}
-use Rattle.answer_line.specs.Lines.{line_of, fault_behind, fault_of, lead, Put, PutsComma, PutsText, PutsField, Written, Refused}
+use Rattle.answer_line.specs.Lines.{line_of, fault_behind, fault_of, lead, Put, PutsComma, PutsText, PutsField, PutsLine, WritesLine}
 
 -- one more piece behind others
 pub joined_push : (f : List ℕ) (fs : List (List ℕ)) (g : List ℕ) → joined ((f ∷ fs) ++ g ∷ []) ≡ joined (f ∷ fs) ++ comma ∷ g
@@ -175,28 +175,36 @@ pub line_put : (text : ℕ → List ℕ) (v pos end : ℕ) (before now after : L
 line_put text v pos end before now after p q =
     rw (line_more text v) (put_both (line_of text v) (lead v ++ text v) 0 pos end before now after (omega arith) p q)
 
-pub line_written : (text : ℕ → List ℕ) (v p pos : ℕ) (before after : List ℕ) → v ≡ p → Put (line_of text v) 0 before after pos → Written text p before after pos
-line_written text v p pos before after e put =
-    let line : line_of text v ≡ line_of text p = ap (line_of text) e in
-    record {
-      long = put.to ∙ omega (arith, ap length line);
-      within = put.within;
-      front = put_front (line_of text v) 0 before after pos (omega arith) put ∙ line;
-      rest = put_rest (line_of text v) 0 before after pos (omega arith) put;
-    }
-
-pub line_refused : (text : ℕ → List ℕ) (v p pos : ℕ) (before now missed after : List ℕ) (o : Overlong) → v < p → Put (line_of text v) 0 before now pos → PutsField text v pos now missed (Err o) → after ≡ replicate 1024 0 ++ drop 1024 missed → Refused text p before after o
-line_refused text v p pos before now missed after o h put q clear =
+-- a field that is refused is the line's fault
+pub fields_refused : (text : ℕ → List ℕ) (v p pos : ℕ) (before now after : List ℕ) (o : Overlong) → v < p → Put (line_of text v) 0 before now pos → PutsField text v pos now after (Err o) → PutsLine text p before after (Err o)
+fields_refused text v p pos before now after o h put q =
     let at : pos ≡ length (line_of text v) = put.to ∙ omega arith in
     let fits = line_fits text v (omega (arith, put.within)) in
     let here : fault_behind (length (line_of text v)) text v ≡ Some o = rw (← at) q.0 in
-    let cause : fault_of text (suc v) ≡ Some o = rw fits here in
-    let past : drop 1024 missed ≡ drop 1024 before = q.1 ∙ put_past (line_of text v) 0 before now pos (omega arith) put 1024 put.within in
+    let cause : fault_of text (suc v) ≡ Some o = rw fits here in (
+      omega (arith, length_line_more text v, field_long pos text v o q.0, line_grows text (v + 1) p (omega arith)),
+      fault_stays text (suc v) p o (omega arith) cause,
+      q.1 ∙ put_past (line_of text v) 0 before now pos (omega arith) put 1024 put.within,
+    )
+
+-- The whole line: it stands where it fits, and else the bytes that it may have are cleared.
+pub line_kept : (m : Meaning) (s p : ℕ) (before after : List ℕ) (r : Result ℕ Overlong) → PutsLine (m.text s) p before after r → is_err r ≡ false → WritesLine m s p before after r
+line_kept m s p before after (Ok end) put e = record {
+  long = omega (arith, put.to);
+  within = put.within;
+  front = put_front (line_of (m.text s) p) 0 before after end (omega arith) put;
+  rest = put_rest (line_of (m.text s) p) 0 before after end (omega arith) put;
+}
+line_kept m s p before after (Err o) put e = absurd (false≢true (sym e))
+
+pub line_cleared : (m : Meaning) (s p : ℕ) (before missed after : List ℕ) (r : Result ℕ Overlong) → PutsLine (m.text s) p before missed r → is_err r ≡ true → after ≡ replicate 1024 0 ++ drop 1024 missed → WritesLine m s p before after r
+line_cleared m s p before missed after (Ok end) put e clear = absurd (false≢true e)
+line_cleared m s p before missed after (Err o) put e clear =
     let zeros : List ℕ = replicate 1024 0 in
     let many : length zeros ≡ 1024 = length-replicate {A = ℕ} 1024 0 in
     record {
-      long = omega (arith, length_line_more text v, field_long pos text v o q.0, line_grows text (v + 1) p (omega arith));
-      cause = fault_stays text (suc v) p o (omega arith) cause;
+      long = put.0;
+      cause = put.1;
       zero = ap (take 1024) clear ∙ take_at zeros (drop 1024 missed) 1024 many;
-      rest = ap (drop 1024) clear ∙ drop_at zeros (drop 1024 missed) 1024 many ∙ past;
+      rest = ap (drop 1024) clear ∙ drop_at zeros (drop 1024 missed) 1024 many ∙ put.2;
     }

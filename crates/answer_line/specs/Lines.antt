@@ -7,7 +7,7 @@
 --   WritesLine     a line Written, or Refused
 --   FieldsTell     which fields of a line are equal
 --   Put            some bytes stand at a place of the buffer
---   PutsComma      a comma put, or refused, and so PutsText and PutsField
+--   PutsComma      a comma put, or refused, and so PutsText, PutsField and PutsLine
 --   lead           the comma before the text of a variable, which the first lacks
 use Rattle.std.specs.Prelude.{◌≡◌, ℕ, zero, suc, ◌+◌, ◌<◌, ◌≤◌, cond, List, [], ◌∷◌, ◌++◌, map, length, take, drop, replicate, Some, None, Ok, Err, Option, Result, nat_le, slice_index_or, slice_set}
 use Rattle.std.specs.List.{range_with_len}
@@ -87,3 +87,7 @@ lead (suc v) = comma ∷ []
 abbrev pub PutsField : (ℕ → List ℕ) → ℕ → ℕ → List ℕ → List ℕ → Result ℕ Overlong → Type 0
 PutsField text v at before after (Ok end) = Put (lead v ++ text v) at before after end
 PutsField text v at before after (Err o) = (fault_behind at text v ≡ Some o) × (drop 1024 after ≡ drop 1024 before)
+
+abbrev pub PutsLine : (ℕ → List ℕ) → ℕ → List ℕ → List ℕ → Result ℕ Overlong → Type 0
+PutsLine text p before after (Ok end) = Put (line_of text p) 0 before after end
+PutsLine text p before after (Err o) = (1024 < length (line_of text p)) × (fault_of text p ≡ Some o) × (drop 1024 after ≡ drop 1024 before)

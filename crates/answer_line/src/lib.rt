@@ -2,7 +2,8 @@
 #![tactic(auto)]
 
 ghost use Rattle.std.specs.Prelude.{◌≡◌, ◌<◌, ◌≤◌, true, ◌++◌, length, drop, replicate};
-ghost use Rattle.answer_line.specs.Lines.{line_of, PutsComma, PutsText, PutsField, WritesLine, FieldsTell};
+ghost use Rattle.answer_line.specs.declared.Overlong.TheVariants.{Text as text};
+ghost use Rattle.answer_line.specs.Lines.{line_of, PutsComma, PutsText, PutsField, PutsLine, WritesLine, FieldsTell};
 
 use bank::{Bank, Refusal};
 
@@ -11,6 +12,14 @@ use bank::{Bank, Refusal};
 pub enum Overlong {
     Comma,
     Text(Refusal),
+}
+
+impl From<Refusal> for Overlong {
+    ghost from_gives = { λ e r. r ≡ text e };
+
+    fn from(e: Refusal) -> Overlong {
+        Overlong::Text(e)
+    }
 }
 
 // Puts a comma at `pos`, and answers where the next text begins.
@@ -40,10 +49,8 @@ fn put_text<B: Bank>(
     requires within { pos ≤ 1024 }
     ensures { PutsText ((B.Bank.view.meaning bank.now).text store var) pos buffer.old buffer.new result }
 {
-    match bank.print(store, var, &mut buffer[pos..1024]) {
-        Ok(len) => Ok(pos + len),
-        Err(refusal) => Err(Overlong::Text(refusal)),
-    }
+    let len = bank.print(store, var, &mut buffer[pos..1024])?;
+    Ok(pos + len)
 }
 
 // Puts the text of a variable at `pos`, behind a comma unless it is the first.
@@ -67,15 +74,27 @@ fn put_field<B: Bank>(
     put_text(bank, store, var, buffer, begin)
 }
 
-// Sets the bytes that a line may have to zero.
-fn clear_line(buffer: &mut [u8])
-    requires { 1024 ≤ length buffer.old }
-    ensures { buffer.new ≡ replicate 1024 0 ++ drop 1024 buffer.old }
+// Puts the fields of a line at the front of `buffer`, and answers where they end.
+fn put_fields<B: Bank>(
+    bank: &B,
+    store: u16,
+    count: u16,
+    buffer: &mut [u8],
+) -> Result<usize, Overlong>
+    requires live { (B.Bank.view.meaning bank.now).live store ≡ true }
+    requires known { count ≤ 16 }
+    requires room { 1024 ≤ length buffer.old }
+    ensures { PutsLine ((B.Bank.view.meaning bank.now).text store) count buffer.old buffer.new result }
 {
-    buffer[..1024].fill(0);
+    let mut pos = 0;
+    for var in 0..count {
+        pos = put_field(bank, store, var, buffer, pos)?;
+    }
+    Ok(pos)
 }
 
-// Puts the texts of the first `count` variables of a store, parted by commas, at the front of `buffer`, and answers the line's length.
+// Puts the texts of the first `count` variables of a store, parted by commas, at the front of `buffer`, and answers the line's length. Where it
+// does not fit, the bytes that it may have are zero.
 pub fn write_line<B: Bank>(
     bank: &B,
     store: u16,
@@ -88,15 +107,9 @@ pub fn write_line<B: Bank>(
     ensures writes { WritesLine (B.Bank.view.meaning bank.now) store count buffer.old buffer.new result }
     ensures tells { FieldsTell (B.Bank.view.meaning bank.now) store count (line_of ((B.Bank.view.meaning bank.now).text store) count) }
 {
-    let mut pos: usize = 0;
-    for var in 0..count {
-        match put_field(bank, store, var, buffer, pos) {
-            Ok(end) => pos = end,
-            Err(overlong) => {
-                clear_line(buffer);
-                return Err(overlong);
-            }
-        }
+    let end = put_fields(bank, store, count, buffer);
+    if end.is_err() {
+        buffer[..1024].fill(0);
     }
-    Ok(pos)
+    end
 }

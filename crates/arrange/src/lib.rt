@@ -1,8 +1,6 @@
 // Runs rule 0 of a book over any bank, and prints its answers as they come.
 #![tactic(auto)]
 
-ghost use Rattle.search.specs.Calls.{Good};
-
 use anyhow::anyhow;
 use bank::Bank;
 use book::Book;
@@ -32,10 +30,7 @@ fn print_answer(rt: &HostRuntime, step: u32, line: &[u8]) -> anyhow::Result<()> 
 }
 
 // Writes the answer that waits, prints it and lets it go. False where it was refused: then this is printed.
-fn hand_out<B: Bank>(rt: &HostRuntime, search: &mut Search<B>, step: u32) -> anyhow::Result<bool>
-    requires { Good B.Bank.view search.old }
-    ensures { Good B.Bank.view search.new }
-{
+fn hand_out<B: Bank>(rt: &HostRuntime, search: &mut Search<B>, step: u32) -> anyhow::Result<bool> {
     let mut line = [0u8; 1024];
     match search.write(&mut line) {
         Ok(len) => {
@@ -51,9 +46,7 @@ fn hand_out<B: Bank>(rt: &HostRuntime, search: &mut Search<B>, step: u32) -> any
 }
 
 // All answers within the steps, and then why there are no more.
-fn print_answers<B: Bank>(rt: &HostRuntime, search: &mut Search<B>) -> anyhow::Result<()>
-    requires { Good B.Bank.view search.old }
-{
+fn print_answers<B: Bank>(rt: &HostRuntime, search: &mut Search<B>) -> anyhow::Result<()> {
     let mut left = STEPS;
     // Each answer takes a step, so there is one turn more than steps at most.
     for _ in 0..=STEPS {
@@ -81,9 +74,11 @@ fn print_answers<B: Bank>(rt: &HostRuntime, search: &mut Search<B>) -> anyhow::R
 }
 
 // Poses rule 0 of a book and prints what comes of it.
-fn pose_first<B: Bank>(rt: &HostRuntime, search: &mut Search<B>, book: &Book) -> anyhow::Result<()>
-    requires { Good B.Bank.view search.old }
-{
+fn pose_first<B: Bank>(
+    rt: &HostRuntime,
+    search: &mut Search<B>,
+    book: &Book,
+) -> anyhow::Result<()> {
     match search.pose(book, 0) {
         Ok(()) => print_answers(rt, search),
         Err(refusal) => print_refused(rt, refusal.number()),

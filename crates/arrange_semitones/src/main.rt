@@ -3,13 +3,9 @@
 
 use arrange::{RECORDS, arrange};
 use records::Slot;
-use semitones::{Cell, Record, Semitones};
+use semitones::{Record, Semitones};
 
 fn main(rt: HostRuntime) -> anyhow::Result<()> {
-    let blank = Record {
-        used: 0,
-        cells: [Cell { root: 0, by: 0 }; 257],
-    };
-    let mut slots = [Slot::idle(blank); RECORDS];
+    let mut slots = [Slot::idle(Record::new()); RECORDS];
     arrange(&rt, Semitones::new(&mut slots))
 }

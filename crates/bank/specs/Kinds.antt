@@ -9,7 +9,8 @@
 --   holds_at       a constraint holds at an assignment
 --   all_hold       each of some constraints does
 --   solves         the solutions of some constraints over the variables below n
---   well_formed    a known code with as many variables as it takes, and a number from -1,000 to 1,000
+--   formed         as many variables as a code takes, if it is known, and a number from -1,000 to 1,000
+--   well_formed    the same at the constraint's own code
 --   in_range       each variable is below n
 use Rattle.std.specs.Prelude.{◌≡◌, ℕ, zero, suc, Bool, true, false, ◌&&◌, List, [], ◌∷◌, map, length, ℤ, Some, None, Option, ◌==◌, nat_le, nat_lt, unsigned_abs}
 
@@ -55,8 +56,11 @@ abbrev pub takes : Option ℕ → ℕ → Bool
 takes None n = false
 takes (Some m) n = m == n
 
+abbrev pub formed : Option ℕ → Condition → Bool
+formed arity c = takes arity (length c.vars) && nat_le (unsigned_abs c.k) 1000
+
 abbrev pub well_formed : Kind → Condition → Bool
-well_formed K c = takes (K.arity c.code) (length c.vars) && nat_le (unsigned_abs c.k) 1000
+well_formed K c = formed (K.arity c.code) c
 
 abbrev pub all_below : ℕ → List ℕ → Bool
 all_below n [] = true

@@ -1,9 +1,10 @@
 // The interface of a bank of stores: what each bank means, what its calls do, and the laws that it shows.
 #![tactic(auto)]
 
-ghost use Rattle.std.specs.Prelude.{◌≡◌};
+ghost use Rattle.std.specs.Prelude.{◌≡◌, length};
 ghost use Rattle.bank.specs.Calls.{Opens, Forks, Tells, Releases, Prints};
-ghost use Rattle.bank.specs.Conditions.{condition};
+ghost use Rattle.bank.specs.Conditions.{condition, listed, Checks};
+ghost use Rattle.bank.specs.Kinds.{all_below};
 ghost use Rattle.bank.specs.Numbers.{number};
 ghost use Rattle.bank.specs.Views.{View};
 
@@ -16,6 +17,31 @@ pub enum Vars {
     Three(u16, u16, u16),
 }
 
+impl Vars {
+    fn count(&self) -> u8
+        ensures { result ≡ length (listed self.now) }
+    {
+        match self {
+            Vars::Zero => 0,
+            Vars::One(_) => 1,
+            Vars::Two(_, _) => 2,
+            Vars::Three(_, _, _) => 3,
+        }
+    }
+
+    // Whether each of them is below `n`.
+    fn all_below(&self, n: u16) -> bool
+        ensures { result ≡ all_below n (listed self.now) }
+    {
+        match *self {
+            Vars::Zero => true,
+            Vars::One(x) => x < n,
+            Vars::Two(x, y) => x < n && y < n,
+            Vars::Three(x, y, z) => x < n && y < n && z < n,
+        }
+    }
+}
+
 // Which constraint, its number, and the variables that it speaks of. Any of these can be told; a bank refuses what it does not know.
 #[derive(Clone, Copy)]
 pub struct Constraint {
@@ -24,30 +50,38 @@ pub struct Constraint {
     pub vars: Vars,
 }
 
-// Why a bank did not do what it was asked.
+impl Constraint {
+    // Whether its code takes as many variables as it has, its number is in range, and each variable is one of the first `variables`.
+    pub fn check(&self, arity: Option<u8>, variables: u16) -> Result<(), Refusal>
+        ensures { Checks arity variables (condition self.now) result }
+    {
+        if arity != Some(self.vars.count()) || self.k.unsigned_abs() > 1000 {
+            return Err(Refusal::BadConstraint);
+        }
+        if !self.vars.all_below(variables) {
+            return Err(Refusal::BadVariable);
+        }
+        Ok(())
+    }
+}
+
+// Why a bank did not do what it was asked, with the number by which this is known outside.
 #[derive(Clone, Copy, PartialEq, Eq, Debug)]
 pub enum Refusal {
-    NotLive,
-    NoSpare,
-    BadConstraint,
-    BadVariable,
-    Contradiction,
-    TextTooLong,
+    NotLive = 32,
+    NoSpare = 31,
+    BadConstraint = 34,
+    BadVariable = 35,
+    Contradiction = 33,
+    TextTooLong = 36,
 }
 
 impl Refusal {
-    // The number by which the refusal is known outside.
+    // The number of the refusal.
     pub fn number(self) -> u8
         ensures { result ≡ number self }
     {
-        match self {
-            Refusal::NoSpare => 31,
-            Refusal::NotLive => 32,
-            Refusal::Contradiction => 33,
-            Refusal::BadConstraint => 34,
-            Refusal::BadVariable => 35,
-            Refusal::TextTooLong => 36,
-        }
+        self as u8
     }
 }
 
@@ -66,7 +100,8 @@ pub trait Bank {
     // The kind of values, the number of variables, the meaning of a state, and the laws.
     ghost view: { View Self };
 
-    // V, as generic code reads it: the contract ties it to the view.
+    // V, as generic code reads it: the contract ties it to the view. A constant can have no such clause where its `impl` has a lifetime, as
+    // those of banks over lent slots have.
     fn variables() -> usize
         ensures { result ≡ view.variables };
 

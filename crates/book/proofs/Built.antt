@@ -1,35 +1,44 @@
 -- What the loop over a draft's lines keeps, and what it has built at the end. Assumes nothing.
-use Rattle.std.proofs.Common.{◌≡◌, ℕ, zero, suc, ◌+◌, ◌-◌, ◌<◌, ◌≤◌, true, List, [], ◌∷◌, ◌++◌, map, length, get_or, take, drop, set, Some, None, Option, sym, refl, ap, ◌∙◌, subst, arith, length-set}
-use Rattle.std.proofs.lemmas.List.{length-map, length-take-le, drop_more, drop_all, get_or-map, get_or-take}
-use Rattle.std.proofs.lemmas.Bool.{and_parts}
+use Rattle.std.proofs.Common.{◌≡◌, ℕ, zero, suc, ◌+◌, ◌<◌, ◌≤◌, true, List, [], ◌∷◌, ◌++◌, map, reverse, length, get_or, take, drop, None, sym, refl, ap, ◌∙◌, subst, arith}
+use Rattle.std.proofs.Math.Path.{transport}
+use Rattle.std.proofs.lemmas.List.{length-append, length-map, length-reverse, length-take, length_push, reverse-append, drop_more, drop_all, take_all, take_at, take-take, get_or-map, get_or-take, get_or_push}
+use Rattle.row.specs.declared.Row.{Row}
+use Rattle.row.specs.Items.{items as in_row}
+use Rattle.row.proofs.Rows.{items_few}
 use Rattle.line.specs.declared.Line.{Line}
 use Rattle.line.specs.declared.Line.TheVariants.{Rule as RuleLine, Tell as TellLine, And as AndLine, Or as OrLine, New as NewLine, Call as CallLine}
-use Rattle.line.specs.Slots.{says, sized}
+use Rattle.line.specs.Says.{says}
 use Rattle.line.specs.Statements.{Statement, a_rule, a_tell, an_and, an_or, a_new, a_call}
 use Rattle.stack.specs.declared.Stack.{Stack}
 use Rattle.stack.specs.Items.{items, room}
 use Rattle.book.specs.declared.drafts.Draft.{Draft}
 use Rattle.book.specs.declared.drafts.Listed.{Listed}
-use Rattle.book.specs.declared.refusal.Cause.{Cause}
 use Rattle.book.specs.declared.Node.{Node}
 use Rattle.book.specs.declared.Rule.{Rule}
 use Rattle.book.specs.declared.Table.{Table}
 use Rattle.book.specs.Building.{head, tail, formed, unused}
-use Rattle.book.specs.Drafts.{entries}
-use Rattle.book.specs.Lists.{entry_of, all_sized}
+use Rattle.book.specs.Drafts.{entries, rules}
+use Rattle.book.specs.Lists.{entry_of}
 use Rattle.book.specs.Meaning.{nodes}
-use Rattle.book.specs.Reading.{Entry, Misfit, heads, misfit, fitting, misfit_at, call_fault_lem, forest}
+use Rattle.book.specs.Reading.{Entry, heads, misfit, fitting, call_fault_lem, start, passed, check, forest}
 use Rattle.book.specs.Table.{scope_at, rooted, calls_fit, heads_of, rules_of}
-use Rattle.book.proofs.Walks.{nodes_used}
-use Rattle.book.proofs.Awaited.{Awaited, awaited_drop}
+use Rattle.book.proofs.Listing.{head_first}
+use Rattle.book.proofs.Misfits.{found_is, found_none}
+use Rattle.book.proofs.Walks.{heads_length as heads_of_length}
+use Rattle.book.proofs.Awaited.{Awaited, awaited_drop, passing}
 use Rattle.book.proofs.Growing.{goals_for, goals_in, Rows, Grown, grown_none, IsGoal, Plants, plants, heads_grown}
 
--- the lines from index `at` on are in the table, and the rules from `whole` on are those among them
-pub record Built (d : Draft) (at : ℕ) (table : Table) (rules : List Rule) (whole : ℕ) (roots : Stack ℕ) : Type 0 where
-  pub grown : Grown (heads (entries d)) (d.count + 1) (at + 1) (drop at (entries d)) (nodes table) (drop whole (take d.rules rules)) (items roots)
-  pub size : length rules ≡ 64
+-- with these lines left, all others are in the table, and the rules are those among them, the last one first
+pub record Built (d : Draft) (left : List Listed) (table : Table) (rules : Row Rule 64) (roots : Stack ℕ) : Type 0 where
+  pub front : left ≡ take (length left) (in_row d.listed)
+  pub grown : Grown (heads (entries d)) (length (entries d) + 1) (length left + 1) (drop (length left) (entries d)) (nodes table) (reverse (in_row rules)) (items roots)
   pub slots : room roots ≡ 1024
-  pub left : whole + length (heads (drop at (entries d))) ≡ d.rules
+
+-- the last of the lines that are left, with its index, where n lines stand before them
+pub record Met (left less : List Listed) (x : Listed) (n k : ℕ) : Type 0 where
+  pub last : left ≡ less ++ x ∷ []
+  pub number : k ≡ n + length less
+  pub none : n ≡ 0
 
 -- each line is a rule's head or a goal
 pub heads_for : (st : Statement) (es : List Entry) (s : ℕ) → goals_for st + length (heads (record { says = st; scope = s } ∷ es)) ≡ suc (length (heads es))
@@ -45,12 +54,7 @@ all_lines [] = refl
 all_lines (e ∷ es) = omega (arith, all_lines es, heads_for e.says es e.scope)
 
 heads_more : (st : Statement) (es : List Entry) (s : ℕ) → length (heads es) ≤ length (heads (record { says = st; scope = s } ∷ es))
-heads_more (a_rule p) es s = omega arith
-heads_more (a_tell code k slots) es s = omega arith
-heads_more an_and es s = omega arith
-heads_more an_or es s = omega arith
-heads_more a_new es s = omega arith
-heads_more (a_call r slots) es s = omega arith
+heads_more st es s = let one = heads (record { says = st; scope = s } ∷ []) in omega (arith, ap length (head_first st s es), length-append one (heads es))
 
 pub heads_drop : (k : ℕ) (es : List Entry) → length (heads (drop k es)) ≤ length (heads es)
 heads_drop zero es = omega arith
@@ -63,28 +67,13 @@ goals_drop (suc k) [] = omega arith
 goals_drop (suc k) (e ∷ es) = omega (arith, goals_drop k es)
 
 -- no call of lines that fit is at fault
-fault_none : (o : Option Cause) (m : Misfit) (line : ℕ) → elim o as (λ _. Misfit) [ None ↦ m | Some cause ↦ misfit_at cause line ] ≡ fitting → (o ≡ None) × (m ≡ fitting)
-fault_none None m line e = (refl, e)
-fault_none (Some cause) m line e = absurd (let z : ◌≡◌ {A = ℕ} 0 1 = cc in omega arith)
-
 pub fitting_at : (hs : List ℕ) (line : ℕ) (es : List Entry) (k : ℕ) (e : Entry) (more : List Entry) → misfit hs line es ≡ fitting → drop k es ≡ e ∷ more → call_fault_lem hs e.says ≡ None
 fitting_at hs line [] zero e more f d = absurd (let z : ◌≡◌ {A = ℕ} 0 1 = cc in omega arith)
 fitting_at hs line [] (suc k) e more f d = absurd (let z : ◌≡◌ {A = ℕ} 0 1 = cc in omega arith)
 fitting_at hs line (x ∷ es) zero e more f d =
     let is : x ≡ e = cc in
-    subst (λ (q : Entry). call_fault_lem hs q.says ≡ None) is (fault_none (call_fault_lem hs x.says) (misfit hs (line + 1) es) line f).0
-fitting_at hs line (x ∷ es) (suc k) e more f d = fitting_at hs (line + 1) es k e more (fault_none (call_fault_lem hs x.says) (misfit hs (line + 1) es) line f).1 d
-
-pub sized_at : (ls : List Listed) (k : ℕ) (d : Listed) → all_sized ls ≡ true → k < length ls → sized (get_or ls k d).line ≡ true
-sized_at [] k d ok h = absurd (omega arith)
-sized_at (l ∷ ls) zero d ok h = (and_parts (sized l.line) (all_sized ls) ok).0
-sized_at (l ∷ ls) (suc k) d ok h = sized_at ls k d (and_parts (sized l.line) (all_sized ls) ok).1 (omega arith)
-
-pub drop_set : {A : Type 0} (i n : ℕ) (xs : List A) (v : A) → i < n → i < length xs → drop i (take n (set xs i v)) ≡ v ∷ drop (suc i) (take n xs)
-drop_set i n [] v h l = absurd (omega arith)
-drop_set i zero (x ∷ xs) v h l = absurd (omega arith)
-drop_set zero (suc n) (x ∷ xs) v h l = refl
-drop_set (suc i) (suc n) (x ∷ xs) v h l = drop_set i n xs v (omega arith) (omega arith)
+    subst (λ (q : Entry). call_fault_lem hs q.says ≡ None) is (found_none hs line es (call_fault_lem hs x.says) (sym (found_is hs line es (call_fault_lem hs x.says)) ∙ f)).0
+fitting_at hs line (x ∷ es) (suc k) e more f d = fitting_at hs (line + 1) es k e more (found_none hs line es (call_fault_lem hs x.says) (sym (found_is hs line es (call_fault_lem hs x.says)) ∙ f)).1 d
 
 pub goal_line : (c : Line) → ((p : ℕ) → c ≡ RuleLine p → ⊥) → IsGoal c
 goal_line (RuleLine p) no_rule = no_rule p refl
@@ -102,109 +91,135 @@ one_goal OrLine g = refl
 one_goal NewLine g = refl
 one_goal (CallLine t) g = refl
 
-no_head : (c : Line) (es : List Entry) (s : ℕ) → IsGoal c → heads (record { says = says c; scope = s } ∷ es) ≡ heads es
-no_head (RuleLine p) es s g = absurd g
-no_head (TellLine t) es s g = refl
-no_head AndLine es s g = refl
-no_head OrLine es s g = refl
-no_head NewLine es s g = refl
-no_head (CallLine t) es s g = refl
-
 -- no goal waits for one above it where none is awaited
 no_roots : (ns : List Node) (roots : List ℕ) (next : ℕ) → Rows ns 1 roots next → map (scope_at ns) roots ≡ [] → 1 ≡ next
 no_roots ns [] next r e = r
 no_roots ns (i ∷ is) next r e = absurd (let z : ◌≡◌ {A = ℕ} 0 1 = cc in omega arith)
 
+-- the lines of a draft passed the check of a text
+abbrev pub Passed : Draft → Type 0
+Passed d = (ls : List (List ℕ)) × (check 1 start ls ≡ passed (entries d))
+
 module _ (d : Draft) where
-  pub long : length (take d.count d.listed) ≡ d.count
-  long = length-take-le d.count d.listed (omega (arith, d.all, d.few_rules, d.few_goals, d.room))
+  -- so each was awaited in its turn
+  in_turn : Passed d → Awaited [] (entries d)
+  in_turn h = let p = passing 1 start h.0 (entries d) h.1 in subst (Awaited []) (sym p.entries) p.awaited
 
-  pub entries_long : length (entries d) ≡ d.count
-  entries_long = length-map (take d.count d.listed) entry_of ∙ long
+  pub entries_long : length (entries d) ≡ length (in_row d.listed)
+  entries_long = length-map (in_row d.listed) entry_of
 
-  pub heads_long : length (heads (entries d)) ≡ d.rules
-  heads_long = sym (ap length d.headed) ∙ length-take-le d.rules d.params (omega (arith, d.few_rules, d.params_room))
+  pub heads_long : length (heads (entries d)) ≡ rules d
+  heads_long = sym (ap length d.headed)
+
+  -- each head is a line
+  pub rules_few : rules d ≤ length (in_row d.listed)
+  rules_few = omega (arith, all_lines (entries d), entries_long, heads_long)
 
   pub goals_few : goals_in (entries d) ≤ 1024
-  goals_few = omega (arith, all_lines (entries d), entries_long, heads_long, d.all, d.few_goals)
+  goals_few = omega (arith, all_lines (entries d), entries_long, heads_long, d.few_goals)
 
   -- the line at an index, with those behind it
-  pub line_here : (k : ℕ) (x : Listed) → k < d.count → drop k (entries d) ≡ entry_of (get_or d.listed k x) ∷ drop (k + 1) (entries d)
-  line_here k x h =
-      drop_more (entries d) k (entry_of x) (omega (arith, entries_long)) ∙ ap (λ e. e ∷ drop (k + 1) (entries d)) (get_or-map entry_of (take d.count d.listed) k x (entry_of x) (omega (arith, long)) ∙ ap entry_of (get_or-take d.count d.listed k x h))
+  pub line_here : (k : ℕ) (x : Listed) → k < length (in_row d.listed) → x ≡ get_or (in_row d.listed) k x → drop k (entries d) ≡ entry_of x ∷ drop (k + 1) (entries d)
+  line_here k x h is =
+      drop_more (entries d) k (entry_of x) (omega (arith, entries_long)) ∙ ap (λ e. e ∷ drop (k + 1) (entries d)) (get_or-map entry_of (in_row d.listed) k x (entry_of x) h ∙ ap entry_of (sym is))
 
-  pub line_sized : (k : ℕ) (x : Listed) → k < d.count → sized (get_or d.listed k x).line ≡ true
-  line_sized k x h = subst (λ (l : Listed). sized l.line ≡ true) (get_or-take d.count d.listed k x h) (sized_at (take d.count d.listed) k x d.sized (omega (arith, long)))
-
-  pub built_start : (table : Table) (rules : List Rule) (roots : Stack ℕ) → nodes table ≡ [] → length rules ≡ 64 → items roots ≡ [] → room roots ≡ 1024 → Built d d.count table rules d.rules roots
-  built_start table rules roots n l i r =
-      let none = drop_all d.count (entries d) (omega (arith, entries_long)) in
-      let no_rules = drop_all d.rules (take d.rules rules) (omega (arith, length-take-le d.rules rules (omega (arith, d.few_rules)))) in
+  -- no line is in a table that is new
+  pub built_start : (left : List Listed) (table : Table) (rs : Row Rule 64) (roots : Stack ℕ) → left ≡ in_row d.listed → nodes table ≡ [] → in_row rs ≡ [] → items roots ≡ [] → room roots ≡ 1024 → Built d left table rs roots
+  built_start left table rs roots all n l i r =
+      let hs = heads (entries d) in
+      let end = length (entries d) + 1 in
+      let long : length (entries d) ≡ length left = entries_long ∙ sym (ap length all) in
+      let none = drop_all (length left) (entries d) (omega arith) in
       record {
-        grown = subst (λ es. Grown (heads (entries d)) (d.count + 1) (d.count + 1) es (nodes table) (drop d.rules (take d.rules rules)) (items roots)) (sym none) (subst (λ ns. Grown (heads (entries d)) (d.count + 1) (d.count + 1) [] ns (drop d.rules (take d.rules rules)) (items roots)) (sym n) (subst (λ rs. Grown (heads (entries d)) (d.count + 1) (d.count + 1) [] [] rs (items roots)) (sym no_rules) (subst (λ is. Grown (heads (entries d)) (d.count + 1) (d.count + 1) [] [] [] is) (sym i) (grown_none (heads (entries d)) (d.count + 1)))));
-        size = l;
+        front = all ∙ sym (take_all (length left) (in_row d.listed) (omega (arith, ap length all)));
+        grown = transport (λ j. Grown hs end (long j + 1) (sym none j) (sym n j) (reverse (sym l j)) (sym i j)) (grown_none hs end);
         slots = r;
-        left = (let z = ap (λ es. length (heads es)) none in omega arith);
       }
 
-  module _ (ok : Awaited [] (entries d)) (fit : misfit (heads (entries d)) 1 (entries d) ≡ fitting) (k : ℕ) (x : Listed) (inside : k < d.count) where
-    here_awaited : (b : List ℕ) × Awaited b (entry_of (get_or d.listed k x) ∷ drop (k + 1) (entries d))
-    here_awaited = let a = awaited_drop k [] (entries d) ok in (a.0, subst (Awaited a.0) (line_here k x inside) a.1)
+  -- one line more, the last one of those that are left
+  module _ {left less : List Listed} {x : Listed} {n k : ℕ} {table : Table} {rs : Row Rule 64} {roots : Stack ℕ} (met : Met left less x n k) (was : Built d left table rs roots) where
+    number : k ≡ length less
+    number = omega (arith, met.number, met.none)
 
-    pub plants_here : (table : Table) (rules : List Rule) (whole : ℕ) (roots : Stack ℕ) → IsGoal (get_or d.listed k x).line → Built d (k + 1) table rules whole roots → Plants (heads (entries d)) (d.count + 1) (k + 1) (get_or d.listed k x).line (get_or d.listed k x).scope (drop (k + 1) (entries d)) (nodes table) (drop whole (take d.rules rules)) (items roots)
-    plants_here table rules whole roots g was =
-        plants (heads (entries d)) (d.count + 1) (k + 1) (get_or d.listed k x).scope (drop (k + 1) (entries d)) (nodes table) (drop whole (take d.rules rules)) (get_or d.listed k x).line (items roots) here_awaited.0 g (line_sized k x inside) (fitting_at (heads (entries d)) 1 (entries d) k (entry_of (get_or d.listed k x)) (drop (k + 1) (entries d)) fit (line_here k x inside)) here_awaited.1 was.grown
+    long : length left ≡ k + 1
+    long = omega (arith, ap length met.last, length_push less x)
 
-    pub room_here : (table : Table) (rules : List Rule) (whole : ℕ) (roots : Stack ℕ) → IsGoal (get_or d.listed k x).line → Built d (k + 1) table rules whole roots → length (nodes table) < 1024
-    room_here table rules whole roots g was =
+    less_front : less ≡ take (length less) (in_row d.listed)
+    less_front =
+        sym (take_at less (x ∷ []) (length less) refl) ∙ ap (take (length less)) (sym met.last ∙ was.front) ∙ take-take (length less) (length left) (in_row d.listed) (omega (arith, long))
+
+    inside : k < length (in_row d.listed)
+    inside = omega (arith, long, ap length was.front, length-take (length left) (in_row d.listed))
+
+    pub line_few : k < 1088
+    line_few = omega (arith, inside, items_few d.listed)
+
+    there : x ≡ get_or (in_row d.listed) k x
+    there =
+        sym (get_or_push less x x k (sym number)) ∙ ap (λ l. get_or l k x) (sym met.last ∙ was.front) ∙ get_or-take (length left) (in_row d.listed) k x (omega (arith, long))
+
+    grown : Grown (heads (entries d)) (length (entries d) + 1) (k + 1 + 1) (drop (k + 1) (entries d)) (nodes table) (reverse (in_row rs)) (items roots)
+    grown = subst (λ n. Grown (heads (entries d)) (length (entries d) + 1) (n + 1) (drop n (entries d)) (nodes table) (reverse (in_row rs)) (items roots)) long was.grown
+
+    here : drop k (entries d) ≡ entry_of x ∷ drop (k + 1) (entries d)
+    here = line_here k x inside there
+
+    here_awaited : Passed d → (b : List ℕ) × Awaited b (entry_of x ∷ drop (k + 1) (entries d))
+    here_awaited ok = let a = awaited_drop k [] (entries d) (in_turn ok) in (a.0, subst (Awaited a.0) here a.1)
+
+    pub plants_here : Passed d → misfit (heads (entries d)) 1 (entries d) ≡ fitting → IsGoal x.line → Plants (heads (entries d)) (length (entries d) + 1) (k + 1) x.line x.scope (drop (k + 1) (entries d)) (nodes table) (reverse (in_row rs)) (items roots)
+    plants_here ok fit g =
+        plants (heads (entries d)) (length (entries d) + 1) (k + 1) x.scope (drop (k + 1) (entries d)) (nodes table) (reverse (in_row rs)) x.line (items roots) (here_awaited ok).0 g (fitting_at (heads (entries d)) 1 (entries d) k (entry_of x) (drop (k + 1) (entries d)) fit here) (here_awaited ok).1 grown
+
+    pub room_here : IsGoal x.line → length (nodes table) < 1024
+    room_here g =
         let few = goals_drop k (entries d) in
-        let here = ap goals_in (line_here k x inside) in
-        omega (arith, was.grown.nodes, goals_few, one_goal (get_or d.listed k x).line g)
+        let one = ap goals_in here in
+        omega (arith, grown.nodes, goals_few, one_goal x.line g)
 
-    pub goal_built : (table after : Table) (rules : List Rule) (whole : ℕ) (roots left : Stack ℕ) → IsGoal (get_or d.listed k x).line → Built d (k + 1) table rules whole roots → nodes after ≡ nodes table ++ record { form = formed (items roots) (get_or d.listed k x).line; scope = (get_or d.listed k x).scope; line = k + 1 } ∷ [] → items left ≡ length (nodes table) ∷ unused (items roots) (get_or d.listed k x).line → room left ≡ room roots → Built d k after rules whole left
-    goal_built table after rules whole roots left g was added waits same =
-        let l = get_or d.listed k x in
-        let h = line_here k x inside in
-        let p = plants_here table rules whole roots g was in
+    pub goal_built : Passed d → misfit (heads (entries d)) 1 (entries d) ≡ fitting → (after : Table) (waits : Stack ℕ) → IsGoal x.line → nodes after ≡ nodes table ++ record { form = formed (items roots) x.line; scope = x.scope; line = k + 1 } ∷ [] → items waits ≡ length (nodes table) ∷ unused (items roots) x.line → room waits ≡ room roots → Built d less after rs waits
+    goal_built ok fit after waits g added left same =
         record {
-          grown = subst (λ es. Grown (heads (entries d)) (d.count + 1) (k + 1) es (nodes after) (drop whole (take d.rules rules)) (items left)) (sym h) (subst (λ ns. Grown (heads (entries d)) (d.count + 1) (k + 1) (entry_of l ∷ drop (k + 1) (entries d)) ns (drop whole (take d.rules rules)) (items left)) (sym added) (subst (λ is. Grown (heads (entries d)) (d.count + 1) (k + 1) (entry_of l ∷ drop (k + 1) (entries d)) (nodes table ++ record { form = formed (items roots) l.line; scope = l.scope; line = k + 1 } ∷ []) (drop whole (take d.rules rules)) is) (sym waits) p.grows));
-          size = was.size;
+          front = less_front;
+          grown = subst (λ n. Grown (heads (entries d)) (length (entries d) + 1) (n + 1) (drop n (entries d)) (nodes after) (reverse (in_row rs)) (items waits)) number (transport (λ j. Grown (heads (entries d)) (length (entries d) + 1) (k + 1) (sym here j) (sym added j) (reverse (in_row rs)) (sym left j)) (plants_here ok fit g).grows);
           slots = same ∙ was.slots;
-          left = ap (λ es. whole + length (heads es)) h ∙ ap (λ hs. whole + length hs) (no_head l.line (drop (k + 1) (entries d)) l.scope g) ∙ was.left;
         }
 
-    module _ (p : ℕ) (is : (get_or d.listed k x).line ≡ RuleLine p) where
-      head_here : drop k (entries d) ≡ record { says = a_rule p; scope = (get_or d.listed k x).scope } ∷ drop (k + 1) (entries d)
-      head_here = line_here k x inside ∙ ap (λ c. record { says = says c; scope = (get_or d.listed k x).scope } ∷ drop (k + 1) (entries d)) is
+    module _ (p : ℕ) (is : x.line ≡ RuleLine p) where
+      head_here : drop k (entries d) ≡ record { says = a_rule p; scope = x.scope } ∷ drop (k + 1) (entries d)
+      head_here = here ∙ ap (λ c. record { says = says c; scope = x.scope } ∷ drop (k + 1) (entries d)) is
 
-      pub whole_here : (table : Table) (rules : List Rule) (whole : ℕ) (roots : Stack ℕ) → Built d (k + 1) table rules whole roots → 1 ≤ whole
-      whole_here table rules whole roots was =
+      pub rule_fits : length (in_row rs) < 64
+      rule_fits =
           let few = heads_drop k (entries d) in
-          let here = ap (λ es. length (heads es)) head_here in
-          omega (arith, was.left, heads_long)
+          let one = ap (λ es. length (heads es)) head_here in
+          let made = ap length grown.headed in
+          omega (arith, heads_of_length (reverse (in_row rs)), length-reverse (in_row rs), heads_long, items_few d.params)
 
-      pub rule_built : (table : Table) (rules : List Rule) (whole : ℕ) (roots left : Stack ℕ) → Built d (k + 1) table rules whole roots → items left ≡ tail (items roots) → room left ≡ room roots → Built d k table (set rules (whole - 1) (record { params = p; goal = head (items roots) })) (whole - 1) left
-      rule_built table rules whole roots left was tails same =
+      pub rule_built : Passed d → (after : Row Rule 64) (waits : Stack ℕ) → in_row after ≡ in_row rs ++ record { params = p; goal = head (items roots) } ∷ [] → items waits ≡ tail (items roots) → room waits ≡ room roots → Built d less table after waits
+      rule_built ok after waits pushed tails same =
           let r : Rule = record { params = p; goal = head (items roots) } in
-          let one = whole_here table rules whole roots was in
-          let back : suc (whole - 1) ≡ whole = omega arith in
-          let inner : whole - 1 < d.rules = omega (arith, was.left) in
-          let more = drop_set (whole - 1) d.rules rules r inner (omega (arith, was.size, d.few_rules)) ∙ ap (λ n. r ∷ drop n (take d.rules rules)) back in
-          let scope = (get_or d.listed k x).scope in
-          let waits = subst (λ c. Awaited here_awaited.0 (record { says = says c; scope = scope } ∷ drop (k + 1) (entries d))) is here_awaited.1 in
-          let grown = heads_grown (heads (entries d)) (d.count + 1) (k + 1) scope (drop (k + 1) (entries d)) (nodes table) (drop whole (take d.rules rules)) p (items roots) here_awaited.0 waits was.grown in
+          let more = ap reverse pushed ∙ reverse-append (in_row rs) (r ∷ []) in
+          let awaits = subst (λ c. Awaited (here_awaited ok).0 (record { says = says c; scope = x.scope } ∷ drop (k + 1) (entries d))) is (here_awaited ok).1 in
           record {
-            grown = subst (λ es. Grown (heads (entries d)) (d.count + 1) (k + 1) es (nodes table) (drop (whole - 1) (take d.rules (set rules (whole - 1) r))) (items left)) (sym head_here) (subst (λ rs. Grown (heads (entries d)) (d.count + 1) (k + 1) (record { says = a_rule p; scope = scope } ∷ drop (k + 1) (entries d)) (nodes table) rs (items left)) (sym more) (subst (λ is. Grown (heads (entries d)) (d.count + 1) (k + 1) (record { says = a_rule p; scope = scope } ∷ drop (k + 1) (entries d)) (nodes table) (r ∷ drop whole (take d.rules rules)) is) (sym tails) grown));
-            size = length-set rules (whole - 1) r ∙ was.size;
+            front = less_front;
+            grown = subst (λ n. Grown (heads (entries d)) (length (entries d) + 1) (n + 1) (drop n (entries d)) (nodes table) (reverse (in_row after)) (items waits)) number (transport (λ j. Grown (heads (entries d)) (length (entries d) + 1) (k + 1) (sym head_here j) (nodes table) (sym more j) (sym tails j)) (heads_grown (heads (entries d)) (length (entries d) + 1) (k + 1) x.scope (drop (k + 1) (entries d)) (nodes table) (reverse (in_row rs)) p (items roots) (here_awaited ok).0 awaits grown));
             slots = same ∙ was.slots;
-            left = (let here = ap (λ es. length (heads es)) head_here in omega (arith, was.left));
           }
 
-  pub built_all : Awaited [] (entries d) → (table : Table) (rules : List Rule) (whole : ℕ) (roots : Stack ℕ) → Built d 0 table rules whole roots → (rooted (nodes table) (d.rules + table.count + 1) 1 (take d.rules rules) ≡ true) × (calls_fit (heads_of (take d.rules rules)) (nodes table) ≡ true) × (rules_of (nodes table) (take d.rules rules) ≡ (forest (entries d)).rules)
-  built_all ok table rules whole roots was =
-      let none : whole ≡ 0 = omega (arith, was.left, heads_long) in
-      let all : drop whole (take d.rules rules) ≡ take d.rules rules = ap (λ n. drop n (take d.rules rules)) none in
-      let g = was.grown in
-      let empty = no_roots (nodes table) (items roots) g.next g.rows (g.scopes [] ok) in
-      let end : d.count + 1 ≡ d.rules + table.count + 1 = omega (arith, g.nodes, all_lines (entries d), entries_long, heads_long, d.all, nodes_used table) in
-      (subst (λ rs. rooted (nodes table) (d.rules + table.count + 1) 1 rs ≡ true) all ((λ i. rooted (nodes table) (sym end i) (empty i) (drop whole (take d.rules rules))) ∙ g.rooting), subst (λ hs. calls_fit hs (nodes table) ≡ true) (sym g.headed ∙ ap heads_of all) g.calls, ap (rules_of (nodes table)) (sym all) ∙ g.rules)
+  -- the rules of a table that has all lines
+  module _ {left : List Listed} {table : Table} {met : Row Rule 64} {roots : Stack ℕ} (was : Built d left table met roots) (none : length left ≡ 0) (rs : Row Rule 64) (turned : in_row rs ≡ reverse (in_row met)) where
+    all : Grown (heads (entries d)) (length (entries d) + 1) 1 (entries d) (nodes table) (in_row rs) (items roots)
+    all = transport (λ i. Grown (heads (entries d)) (length (entries d) + 1) (none i + 1) (drop (none i) (entries d)) (nodes table) (sym turned i) (items roots)) was.grown
+
+    pub all_rooted : Passed d → rooted (nodes table) (length (in_row rs) + length (nodes table) + 1) 1 (in_row rs) ≡ true
+    all_rooted ok =
+        let empty = no_roots (nodes table) (items roots) all.next all.rows (all.scopes [] (in_turn ok)) in
+        let end : length (entries d) + 1 ≡ length (in_row rs) + length (nodes table) + 1 = omega (arith, all.nodes, all_lines (entries d), ap length all.headed, heads_of_length (in_row rs)) in
+        transport (λ i. rooted (nodes table) (end i) (sym empty i) (in_row rs) ≡ true) all.rooting
+
+    pub all_called : calls_fit (heads_of (in_row rs)) (nodes table) ≡ true
+    all_called = subst (λ hs. calls_fit hs (nodes table) ≡ true) (sym all.headed) all.calls
+
+    pub all_rules : rules_of (nodes table) (in_row rs) ≡ (forest (entries d)).rules
+    all_rules = all.rules

@@ -1,7 +1,8 @@
 -- Every book that can exist is a book: within the limits, and well formed. Assumes nothing.
-use Rattle.std.proofs.Common.{◌≡◌, ℕ, zero, suc, ◌+◌, ◌<◌, ◌≤◌, true, ◌&&◌, eqb, ltb, leb, List, [], ◌∷◌, ◌++◌, length, get_or, take, sym, refl, ap, ◌∙◌, subst, add-one, arith}
+use Rattle.std.proofs.Common.{◌≡◌, ℕ, zero, suc, ◌+◌, ◌<◌, ◌≤◌, true, ◌&&◌, eqb, ltb, leb, List, [], ◌∷◌, length, get_or, sym, refl, ap, ◌∙◌, subst, add-one, arith}
 use Rattle.std.proofs.lemmas.Bool.{and_parts, eqb-true}
-use Rattle.line.specs.Slots.{slots_of}
+use Rattle.row.specs.Items.{items}
+use Rattle.row.proofs.Rows.{items_few}
 use Rattle.line.specs.Statements.{AllSlots, InRange}
 use Rattle.book.specs.declared.Book.{Book}
 use Rattle.book.specs.declared.Form.{Form}
@@ -11,18 +12,14 @@ use Rattle.book.specs.declared.Rule.{Rule}
 use Rattle.book.specs.Language.{Goal, conj, disj, fresh, Rules, rule_at, size, total, Each, Fits, Shallow}
 use Rattle.book.specs.Listing.{goal_lines, listing, IsBook}
 use Rattle.book.specs.Meaning.{book_nodes, book_rules, meaning}
-use Rattle.book.specs.Table.{goal_at, blank, no_rule, scope_at, line_at, part, nested, heads_of, calls_fit, rooted, rules_of, Stands}
-use Rattle.book.proofs.Walks.{nodes_used, rules_used_lem, stands, rooted_at, rules_length, rule_at_of}
+use Rattle.book.specs.Table.{goal_at, blank, no_rule, scope_at, line_at, part, nested, heads_of, calls_fit, rooted, rule_of, rules_of, Stands, Rooted}
+use Rattle.book.proofs.Misfits.{each_append}
+use Rattle.book.proofs.Walks.{stands, rooted_at, rules_length, rule_at_of}
 
-pub each_append : {A : Type 0} (P : A → Type 0) (xs ys : List A) → Each P xs → Each P ys → Each P (xs ++ ys)
-each_append P [] ys a b = b
-each_append P (x ∷ xs) ys a b = (a.0, each_append P xs ys a.1 b)
-
--- slots in scope, as the list of those in use
-each_slot : (scope n : ℕ) (xs : List ℕ) → ((j : ℕ) → j < n → get_or xs j 0 < scope) → Each (λ s. s < scope) (take n xs)
-each_slot scope zero xs h = tt
-each_slot scope (suc n) [] h = tt
-each_slot scope (suc n) (x ∷ xs) h = (h 0 (omega arith), each_slot scope n xs (λ j l. h (suc j) (omega arith)))
+-- slots that are in scope by their places
+each_slot : (scope : ℕ) (xs : List ℕ) → ((j : ℕ) → j < length xs → get_or xs j 0 < scope) → Each (λ s. s < scope) xs
+each_slot scope [] h = tt
+each_slot scope (x ∷ xs) h = (h 0 (omega arith), each_slot scope xs (λ j l. h (suc j) (omega arith)))
 
 sixteen : (scope : ℕ) (xs : List ℕ) → scope ≤ 16 → Each (λ s. s < scope) xs → AllSlots xs
 sixteen scope [] l h = tt
@@ -47,10 +44,9 @@ module _ (rs : List Rule) (ns : List Node) (few : length rs ≤ 64) (well : nest
   -- by what stands at node i, when all nodes before it are good
   good_by : (i : ℕ) (f : Form) → scope_at ns i ≤ 16 → Stands rs ns i f → ((a : ℕ) → a < i → scope_at ns a ≤ 16 → Good (rules_of ns rs) (scope_at ns a) (goal_at ns a)) → Good (rules_of ns rs) (scope_at ns i) (goal_at ns i)
   good_by i (Tell t) low s ih =
-      let each = each_slot (scope_at ns i) t.slots.count t.slots.places s.2.below in
-      let long = s.2.all in
+      let each = each_slot (scope_at ns i) (items t.slots) s.2.below in
       let few = s.2.few in
-      subst (Good (rules_of ns rs) (scope_at ns i)) (sym s.3) (record { fits = each; shallow = tt; ranges = ((s.0, s.1, omega arith, sixteen (scope_at ns i) (slots_of t.slots) low each), tt) })
+      subst (Good (rules_of ns rs) (scope_at ns i)) (sym s.3) (record { fits = each; shallow = tt; ranges = ((s.0, s.1, omega arith, sixteen (scope_at ns i) (items t.slots) low each), tt) })
   good_by i (And a b) low s ih = subst (Good (rules_of ns rs) (scope_at ns i)) (sym s.2) (good_both (rules_of ns rs) (scope_at ns i) (goal_at ns a) (goal_at ns b) (below a s.0.earlier s.0.scoped) (below b s.1.earlier s.1.scoped))
     where
       below : (j : ℕ) → j < i → scope_at ns j ≡ scope_at ns i → Good (rules_of ns rs) (scope_at ns i) (goal_at ns j)
@@ -61,12 +57,11 @@ module _ (rs : List Rule) (ns : List Node) (few : length rs ≤ 64) (well : nest
       below j l e = subst (λ s. Good (rules_of ns rs) s (goal_at ns j)) e (ih j l (omega arith))
   good_by i (New a) low s ih = subst (Good (rules_of ns rs) (scope_at ns i)) (sym s.2) (good_new (rules_of ns rs) (scope_at ns i) (goal_at ns a) s.0 (subst (λ k. Good (rules_of ns rs) k (goal_at ns a)) s.1.scoped (ih a s.1.earlier (let e = s.1.scoped in let l = s.0 in omega arith))))
   good_by i (Call c) low s ih =
-      let each = each_slot (scope_at ns i) c.slots.count c.slots.places s.2.below in
+      let each = each_slot (scope_at ns i) (items c.slots) s.2.below in
       let inside = s.0 in
       let most = s.2.few in
-      let all = s.2.all in
       let same : (rule_at (rules_of ns rs) c.rule).params ≡ (get_or rs c.rule no_rule).params = ap (λ r. r.params) (rule_at_of ns rs c.rule s.0) in
-      subst (Good (rules_of ns rs) (scope_at ns i)) (sym s.3) (record { fits = (omega (arith, rules_length ns rs), s.2.all ∙ s.1 ∙ sym same, each); shallow = tt; ranges = ((omega arith, omega arith, sixteen (scope_at ns i) (slots_of c.slots) low each), tt) })
+      subst (Good (rules_of ns rs) (scope_at ns i)) (sym s.3) (record { fits = (omega (arith, rules_length ns rs), s.1 ∙ sym same, each); shallow = tt; ranges = ((omega arith, omega arith, sixteen (scope_at ns i) (items c.slots) low each), tt) })
 
   pub good_at : (fuel i : ℕ) → i < fuel → i < length ns → scope_at ns i ≤ 16 → Good (rules_of ns rs) (scope_at ns i) (goal_at ns i)
   good_at zero i l h low = absurd (omega arith)
@@ -102,13 +97,12 @@ pub every_book : (b : Book) → IsBook (meaning b)
 every_book b =
     let ns = book_nodes b in
     let rs = book_rules b in
-    let long = rules_used_lem b in
-    let end = b.used + b.table.count + 1 in
-    let few : length rs ≤ 64 = omega (arith, b.few_rules) in
+    let end = length rs + length ns + 1 in
+    let few = items_few b.rules in
     let good = each_good rs ns few b.table.well b.well_called end 1 rs b.well_rooted in
     record {
       few_rules_lem = omega (arith, rules_length ns rs);
-      few_goals_lem = omega (arith, all_written rs ns few b.table.well b.well_called end 1 rs b.well_rooted, b.table.few);
+      few_goals_lem = omega (arith, all_written rs ns few b.table.well b.well_called end 1 rs b.well_rooted, items_few b.table.goals);
       ranges = good.ranges;
       shallow = good.shallow;
       fits = good.fits;
@@ -119,9 +113,7 @@ pub goals_all : (b : Book) → length (book_nodes b) ≡ total (meaning b)
 goals_all b =
     let ns = book_nodes b in
     let rs = book_rules b in
-    let long = rules_used_lem b in
-    let end = b.used + b.table.count + 1 in
-    omega (arith, all_written rs ns (omega (arith, b.few_rules)) b.table.well b.well_called end 1 rs b.well_rooted, nodes_used b.table)
+    omega (arith, all_written rs ns (items_few b.rules) b.table.well b.well_called (length rs + length ns + 1) 1 rs b.well_rooted)
 
 -- the line of rule r, when the first of these rules is on that line
 abbrev rule_line_lem : List Node → ℕ → List Rule → ℕ → ℕ
@@ -165,19 +157,33 @@ module _ (b : Book) (r : ℕ) (h : r < length (book_rules b)) where
   size_between more =
       let ns = book_nodes b in
       let rs = book_rules b in
-      let end = b.used + b.table.count + 1 in
+      let end = length rs + length ns + 1 in
       let e : suc r ≡ r + 1 = omega arith in
       let next = next_line_lem ns end 1 rs r h in
       let here = goal_line ns end 1 rs r b.well_rooted h in
       let there = ap (λ k. line_at ns (get_or rs k no_rule).goal) (sym e) ∙ goal_line ns end 1 rs (suc r) b.well_rooted (omega arith) in
       omega (arith, size_here)
 
-  pub size_last : length (book_rules b) ≤ r + 1 → line_at (book_nodes b) (get_or (book_rules b) r no_rule).goal + size (rule_at (meaning b) r).goal ≡ b.used + b.table.count + 1
+  pub next_below : r + 1 < length (book_rules b) → 1 ≤ line_at (book_nodes b) (get_or (book_rules b) (r + 1) no_rule).goal
+  next_below more = omega (arith, size_between more)
+
+  pub size_last : length (book_rules b) ≤ r + 1 → line_at (book_nodes b) (get_or (book_rules b) r no_rule).goal + size (rule_at (meaning b) r).goal ≡ length (book_rules b) + length (book_nodes b) + 1
   size_last last =
       let ns = book_nodes b in
       let rs = book_rules b in
-      let end = b.used + b.table.count + 1 in
+      let end = length rs + length ns + 1 in
       let next = next_line_lem ns end 1 rs r h in
       let here = goal_line ns end 1 rs r b.well_rooted h in
       let there = last_line ns end 1 rs (suc r) b.well_rooted (omega arith) in
       omega (arith, size_here)
+
+-- what a book says of one goal and of one rule
+module _ (b : Book) where
+  pub stands_in : (i : ℕ) → i < length (book_nodes b) → Stands (book_rules b) (book_nodes b) i (get_or (book_nodes b) i blank).form
+  stands_in i h = stands (book_rules b) (book_nodes b) i b.table.well b.well_called h
+
+  pub rooted_in : (r : ℕ) → r < length (book_rules b) → Rooted (book_nodes b) (get_or (book_rules b) r no_rule)
+  rooted_in r h = rooted_at (book_nodes b) (length (book_rules b) + length (book_nodes b) + 1) 1 (book_rules b) r b.well_rooted h
+
+  pub meant_in : (r : ℕ) → r < length (book_rules b) → rule_at (meaning b) r ≡ rule_of (book_nodes b) (get_or (book_rules b) r no_rule)
+  meant_in r h = rule_at_of (book_nodes b) (book_rules b) r h

@@ -1,16 +1,19 @@
 -- What the loop over the lines of a text keeps. Assumes nothing.
-use Rattle.std.proofs.Common.{◌≡◌, ℕ, ◌+◌, ◌≤◌, List, [], length, Some, None, sym, refl, ap, ◌∙◌, arith}
+use Rattle.std.proofs.Common.{◌≡◌, ℕ, ◌+◌, ◌≤◌, true, false, List, length, Some, Ok, Err, Result, sym, refl, ap, ◌∙◌, arith}
 use Rattle.std.proofs.lemmas.List.{length_push}
+use Rattle.std.proofs.lemmas.Bool.{both_ways}
+use Rattle.std.specs.Result.{is_ok, OnOk}
 use Rattle.fields.specs.declared.Fields.{Fields}
 use Rattle.fields.specs.Cursor.{here, later, Lined}
 use Rattle.fields.specs.Cutting.{lines, fields}
 use Rattle.line.specs.Reading.{Outcome, said, wrong, outcome}
+use Rattle.row.specs.Items.{items as in_row}
 use Rattle.stack.specs.declared.Stack.{Stack}
 use Rattle.stack.specs.Items.{items, room}
 use Rattle.book.specs.declared.drafts.Draft.{Draft}
 use Rattle.book.specs.declared.refusal.Barred.{Barred}
-use Rattle.book.specs.Drafts.{state_of, taken}
-use Rattle.book.specs.Reading.{State, placed, barred, stopped, start, check}
+use Rattle.book.specs.Drafts.{goals, state_of, taken, placed_by}
+use Rattle.book.specs.Reading.{State, placed, start, check}
 use Rattle.book.proofs.Awaited.{placing}
 use Rattle.book.proofs.Built.{entries_long}
 use Rattle.book.proofs.Passing.{onward, behind, check_cons}
@@ -19,8 +22,8 @@ use Rattle.book.proofs.Passing.{onward, behind, check_cons}
 pub record Gathers (text : List ℕ) (d : Draft) (f : Fields) (awaited : Stack ℕ) : Type 0 where
   pub going : check (f.line + 1) (state_of d (items awaited)) (later f) ≡ check 1 start (lines text)
   pub size : room awaited ≡ 1025
-  pub few : length (items awaited) ≤ d.goals + 1
-  pub counted : d.count ≡ f.line
+  pub few : length (items awaited) ≤ goals d + 1
+  pub counted : length (in_row d.listed) ≡ f.line
 
 behind_taken : (line : ℕ) (s : State) (ls : List (List ℕ)) (o : Outcome) → behind line s ls o ≡ onward line ls (taken s o)
 behind_taken line s ls (wrong fault) = refl
@@ -38,7 +41,7 @@ module _ (text : List ℕ) (d : Draft) (f g : Fields) (awaited : Stack ℕ) (n :
       let l = lined.0 in
       (λ i. onward (f.line + 1) (later g) (taken s (outcome (lined.5 i) (lined.2 i)))) ∙ sym (behind_taken (f.line + 1) s (later g) (outcome 0 (fields l))) ∙ sym (check_cons (f.line + 1) s l (later g)) ∙ ap (check (f.line + 1) s) (sym lined.1) ∙ was.going
 
-  pub gathers_more : (d' : Draft) (g' : Fields) (awaited' : Stack ℕ) → taken (state_of d (items awaited)) (outcome g.given (here g)) ≡ placed (state_of d' (items awaited')) → room awaited' ≡ 1025 → length (items awaited') ≤ d'.goals + 1 → later g' ≡ later g → g'.line ≡ g.line → Gathers text d' g' awaited'
+  gathers_more : (d' : Draft) (g' : Fields) (awaited' : Stack ℕ) → taken (state_of d (items awaited)) (outcome g.given (here g)) ≡ placed (state_of d' (items awaited')) → room awaited' ≡ 1025 → length (items awaited') ≤ goals d' + 1 → later g' ≡ later g → g'.line ≡ g.line → Gathers text d' g' awaited'
   gathers_more d' g' awaited' e size few same number =
       let more = taken_more (state_of d (items awaited)) (outcome g.given (here g)) (state_of d' (items awaited')) e in
       let line : g'.line ≡ f.line + 1 = number ∙ lined.4 ∙ lined.3 in
@@ -49,9 +52,7 @@ module _ (text : List ℕ) (d : Draft) (f g : Fields) (awaited : Stack ℕ) (n :
         counted = omega (arith, was.counted, entries_long d, entries_long d');
       }
 
-  pub gathers_barred : (b : Barred) → taken (state_of d (items awaited)) (outcome g.given (here g)) ≡ barred b.cause b.field → stopped b.cause n b.field ≡ check 1 start (lines text)
-  gathers_barred b e = ap (λ k. stopped b.cause k b.field) lined.3 ∙ sym (ap (onward (f.line + 1) (later g)) e) ∙ next
-
--- there is no further line
-pub gathers_all : (text : List ℕ) (d : Draft) (f g : Fields) (awaited : Stack ℕ) → Gathers text d f awaited → Lined f None g → check (d.count + 1) (state_of d (items awaited)) [] ≡ check 1 start (lines text)
-gathers_all text d f g awaited was lined = (λ i. check (was.counted i + 1) (state_of d (items awaited)) (sym lined.0 i)) ∙ was.going
+  -- the same, by what the code answered to that line
+  pub gathers_ok : (r : Result (Unit {0}) Barred) (d' : Draft) (g' : Fields) (awaited' : Stack ℕ) → is_ok r ≡ true → taken (state_of d (items awaited)) (outcome g.given (here g)) ≡ placed_by r (state_of d' (items awaited')) → room awaited' ≡ 1025 → OnOk r (length (items awaited') ≤ goals d' + 1) → later g' ≡ later g → g'.line ≡ g.line → Gathers text d' g' awaited'
+  gathers_ok (Ok u) d' g' awaited' ok e size few same number = gathers_more d' g' awaited' e size few same number
+  gathers_ok (Err b) d' g' awaited' ok e size few same number = absurd (both_ways false refl ok)

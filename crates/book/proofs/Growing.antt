@@ -3,13 +3,14 @@
 --   goals_in   how many of some lines are goals
 --   Rows       goals that are written one behind the other, from a line on up to another
 --   Grown      the table and the rules stand for what the lines make, with these goals waiting for one above them
-use Rattle.std.proofs.Common.{◌≡◌, ℕ, zero, suc, ◌+◌, ◌<◌, ◌≤◌, Bool, true, false, cond, ◌&&◌, eqb, ltb, List, [], ◌∷◌, ◌++◌, map, length, get_or, take, Some, None, sym, refl, ap, ◌∙◌, subst, arith}
-use Rattle.std.proofs.lemmas.List.{length_push, length-take-le, length-map}
-use Rattle.std.proofs.lemmas.Bool.{and_from, ltb-true, lt-ltb, leb-true, le-leb, eqb-true, eq-eqb}
+use Rattle.std.proofs.Common.{◌≡◌, ℕ, suc, ◌+◌, ◌<◌, ◌≤◌, Bool, true, false, cond, ◌&&◌, eqb, ltb, List, [], ◌∷◌, ◌++◌, map, length, get_or, Some, None, sym, refl, ap, ◌∙◌, subst, arith}
+use Rattle.std.proofs.lemmas.List.{length_push, length-map}
+use Rattle.std.proofs.lemmas.Bool.{and_from, ltb-true, lt-ltb, le-leb, eqb-true, eq-eqb}
 use Rattle.line.specs.declared.Line.{Line}
 use Rattle.line.specs.declared.Line.TheVariants.{Rule as RuleLine, Tell as TellLine, And as AndLine, Or as OrLine, New as NewLine, Call as CallLine}
-use Rattle.line.specs.declared.Slots.{Slots}
-use Rattle.line.specs.Slots.{says, slots_of, slots_sized, sized}
+use Rattle.line.specs.Says.{says}
+use Rattle.row.specs.declared.Row.{Row}
+use Rattle.row.specs.Items.{items}
 use Rattle.line.specs.Statements.{Statement, a_rule, a_tell, an_and, an_or, a_new, a_call}
 use Rattle.numeral.specs.Reads.{size as magnitude}
 use Rattle.book.specs.declared.refusal.Cause.TheVariants.{SlotCount, NoSuchRule}
@@ -101,18 +102,12 @@ module _ (hs : List ℕ) (end line : ℕ) (e : Entry) (es : List Entry) (ns : Li
         few = omega arith;
       }
 
-each_all : (s n : ℕ) (xs : List ℕ) → n ≤ length xs → Each (λ x. x < s) (take n xs) → all_below s n xs ≡ true
-each_all s zero xs l h = refl
-each_all s (suc n) [] l h = absurd (omega arith)
-each_all s (suc n) (x ∷ xs) l h = and_from _ _ (lt-ltb x s h.0) (each_all s n xs (omega arith) h.1)
+each_all : (s : ℕ) (xs : List ℕ) → Each (λ x. x < s) xs → all_below s xs ≡ true
+each_all s [] h = refl
+each_all s (x ∷ xs) h = and_from _ _ (lt-ltb x s h.0) (each_all s xs h.1)
 
-pub slots_length : (s : Slots) → slots_sized s ≡ true → length (slots_of s) ≡ s.count
-slots_length s z = length-take-le s.count s.places (leb-true _ _ z)
-
-slots_are : (most scope : ℕ) (s : Slots) → slots_sized s ≡ true → length (slots_of s) ≤ most → Each (λ x. x < scope) (slots_of s) → slots_fit most scope s ≡ true
-slots_are most scope s z few each =
-    let long = slots_length s z in
-    and_from _ _ (le-leb s.count most (omega arith)) (each_all scope s.count s.places (leb-true _ _ z) each)
+slots_are : {N : ℕ} (most scope : ℕ) (s : Row ℕ N) → length (items s) ≤ most → Each (λ x. x < scope) (items s) → slots_fit most scope s ≡ true
+slots_are most scope s few each = and_from _ _ (le-leb (length (items s)) most few) (each_all scope (items s) each)
 
 is_part : (ns : List Node) (i scope line : ℕ) → i < length ns → scope_at ns i ≡ scope → line_at ns i ≡ line → part ns i scope line ≡ true
 is_part ns i scope line h s l = and_from _ _ (lt-ltb i (length ns) h) (and_from _ _ (eq-eqb _ scope s) (eq-eqb _ line l))
@@ -174,34 +169,34 @@ module _ (hs : List ℕ) (end line s : ℕ) (es : List Entry) (ns : List Node) (
   too_few : (roots a : List ℕ) (x : ℕ) → Grown hs end (line + 1) es ns rs roots → Awaited (x ∷ a) es → length roots ≡ suc (length a)
   too_few roots a x was w = sym (length-map roots (scope_at ns)) ∙ ap length (was.scopes (x ∷ a) w)
 
-  pub plants : (c : Line) (roots : List ℕ) (a : List ℕ) → IsGoal c → sized c ≡ true → call_fault_lem hs (says c) ≡ None → Awaited a (record { says = says c; scope = s } ∷ es) → Grown hs end (line + 1) es ns rs roots → Plants hs end line c s es ns rs roots
-  plants (RuleLine p) roots a g z f w was = absurd g
-  plants (TellLine t) roots a g z f w was =
+  pub plants : (c : Line) (roots : List ℕ) (a : List ℕ) → IsGoal c → call_fault_lem hs (says c) ≡ None → Awaited a (record { says = says c; scope = s } ∷ es) → Grown hs end (line + 1) es ns rs roots → Plants hs end line c s es ns rs roots
+  plants (RuleLine p) roots a g f w was = absurd g
+  plants (TellLine t) roots a g f w was =
       let q = w.1 in
-      let slots = slots_are 3 s t.slots z q.2 w.2.1 in
+      let slots = slots_are 3 s t.slots q.2 w.2.1 in
       record {
         fits = and_from _ _ (le-leb t.code 255 q.0) (and_from _ _ (le-leb (magnitude t.k) 1000 q.1) slots);
         fewer = was.few;
         grows = grown_node hs end line _ es ns rs roots roots _ was refl was.rows (λ t'. grown (goals_of [] ns) (formed roots (TellLine t)) ∷ was.goals t') refl (λ a' h. (λ t'. s ∷ was.scopes h.0 h.3 t') ∙ sym h.2.0) refl refl (omega arith) was.few;
       }
-  plants AndLine [] a g z f w was = absurd (omega (arith, too_few [] (s ∷ w.2.0) s was (subst (λ b. Awaited b es) w.2.2 w.3)))
-  plants AndLine (i ∷ []) a g z f w was = absurd (omega (arith, too_few (i ∷ []) (s ∷ w.2.0) s was (subst (λ b. Awaited b es) w.2.2 w.3)))
-  plants AndLine (i ∷ j ∷ us) a g z f w was =
+  plants AndLine [] a g f w was = absurd (omega (arith, too_few [] (s ∷ w.2.0) s was (subst (λ b. Awaited b es) w.2.2 w.3)))
+  plants AndLine (i ∷ []) a g f w was = absurd (omega (arith, too_few (i ∷ []) (s ∷ w.2.0) s was (subst (λ b. Awaited b es) w.2.2 w.3)))
+  plants AndLine (i ∷ j ∷ us) a g f w was =
       record {
         fits = two_parts i j us w.2.0 was (subst (λ b. Awaited b es) w.2.2 w.3);
         fewer = (let few = was.few in omega arith);
         grows = above_two _ (formed (i ∷ j ∷ us) AndLine) conj i j us was (λ g h. refl) refl refl refl (λ a' h. (h.2.0, h.2.1, subst (λ b. Awaited b es) h.2.2 h.3)) refl refl (omega arith);
       }
-  plants OrLine [] a g z f w was = absurd (omega (arith, too_few [] (s ∷ w.2.0) s was (subst (λ b. Awaited b es) w.2.2 w.3)))
-  plants OrLine (i ∷ []) a g z f w was = absurd (omega (arith, too_few (i ∷ []) (s ∷ w.2.0) s was (subst (λ b. Awaited b es) w.2.2 w.3)))
-  plants OrLine (i ∷ j ∷ us) a g z f w was =
+  plants OrLine [] a g f w was = absurd (omega (arith, too_few [] (s ∷ w.2.0) s was (subst (λ b. Awaited b es) w.2.2 w.3)))
+  plants OrLine (i ∷ []) a g f w was = absurd (omega (arith, too_few (i ∷ []) (s ∷ w.2.0) s was (subst (λ b. Awaited b es) w.2.2 w.3)))
+  plants OrLine (i ∷ j ∷ us) a g f w was =
       record {
         fits = two_parts i j us w.2.0 was (subst (λ b. Awaited b es) w.2.2 w.3);
         fewer = (let few = was.few in omega arith);
         grows = above_two _ (formed (i ∷ j ∷ us) OrLine) disj i j us was (λ g h. refl) refl refl refl (λ a' h. (h.2.0, h.2.1, subst (λ b. Awaited b es) h.2.2 h.3)) refl refl (omega arith);
       }
-  plants NewLine [] a g z f w was = absurd (omega (arith, too_few [] w.2.0 (s + 1) was (subst (λ b. Awaited b es) w.2.2 w.3)))
-  plants NewLine (i ∷ us) a g z f w was =
+  plants NewLine [] a g f w was = absurd (omega (arith, too_few [] w.2.0 (s + 1) was (subst (λ b. Awaited b es) w.2.2 w.3)))
+  plants NewLine (i ∷ us) a g f w was =
       let e = was.scopes ((s + 1) ∷ w.2.0) (subst (λ b. Awaited b es) w.2.2 w.3) in
       let scoped : scope_at ns i ≡ s + 1 = cc in
       let r = was.rows in
@@ -212,14 +207,13 @@ module _ (hs : List ℕ) (end line s : ℕ) (es : List Entry) (ns : List Node) (
         fewer = (let few = was.few in omega arith);
         grows = grown_node hs end line _ es ns rs (i ∷ us) us _ was refl (subst (λ l. Rows ns l us was.next) long r.2) (λ t. fresh (first (gs t)) ∷ rest (gs t)) refl (λ a' h. let o = was.scopes ((s + 1) ∷ h.2.0) (subst (λ b. Awaited b es) h.2.2 h.3) in let left : map (scope_at ns) us ≡ h.2.0 = cc in ap (λ l. s ∷ l) left ∙ sym h.2.1) refl refl (omega arith) (let few = was.few in omega arith);
       }
-  plants (CallLine c) roots a g z f w was =
+  plants (CallLine c) roots a g f w was =
       let q = w.1 in
-      let long = slots_length c.slots z in
-      let fit = calls_none hs c.rule (slots_of c.slots) f in
+      let fit = calls_none hs c.rule (items c.slots) f in
       record {
-        fits = slots_are 16 s c.slots z q.1 w.2.1;
+        fits = slots_are 16 s c.slots q.1 w.2.1;
         fewer = was.few;
-        grows = grown_node hs end line _ es ns rs roots roots _ was refl was.rows (λ t'. grown (goals_of [] ns) (formed roots (CallLine c)) ∷ was.goals t') refl (λ a' h. (λ t'. s ∷ was.scopes h.0 h.3 t') ∙ sym h.2.0) (and_from _ _ (lt-ltb c.rule (length hs) fit.0) (eq-eqb c.slots.count (get_or hs c.rule 0) (sym long ∙ fit.1))) refl (omega arith) was.few;
+        grows = grown_node hs end line _ es ns rs roots roots _ was refl was.rows (λ t'. grown (goals_of [] ns) (formed roots (CallLine c)) ∷ was.goals t') refl (λ a' h. (λ t'. s ∷ was.scopes h.0 h.3 t') ∙ sym h.2.0) (and_from _ _ (lt-ltb c.rule (length hs) fit.0) (eq-eqb (length (items c.slots)) (get_or hs c.rule 0) fit.1)) refl (omega arith) was.few;
       }
 
   -- a rule line takes the one goal that waits

@@ -87,5 +87,5 @@ reads_only text rules e =
     let p = passing (lines text) 1 start h.0 h.1 in
     book_only text rules h.0 p.0 p.1 h.2
 
-pub reads_books : (text : List ℕ) → ReadsBooks text (reading text)
-reads_books text = record { reads = reads_as text; only = reads_only text }
+pub reads_books : (text : List ℕ) (r : Reading) → r ≡ reading text → ReadsBooks text r
+reads_books text r is = record { reads = λ rules b w. is ∙ reads_as text rules b w; only = λ rules e. reads_only text rules (sym is ∙ e) }

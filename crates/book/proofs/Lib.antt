@@ -10,7 +10,6 @@ pub mod Listing
 pub mod Misfits
 pub mod Passing
 pub mod Polish
-pub mod Scopes
 pub mod Settling
 pub mod Texts
 pub mod Walks

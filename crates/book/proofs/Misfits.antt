@@ -62,15 +62,15 @@ abbrev pub Called : List ℕ → Statement → Type 0
 Called ps st = call_fault_lem ps st ≡ None
 
 -- what is looked for behind a line
-abbrev found : List ℕ → ℕ → List Entry → Option Cause → Misfit
+abbrev pub found : List ℕ → ℕ → List Entry → Option Cause → Misfit
 found ps line es None = misfit ps (line + 1) es
 found ps line es (Some cause) = misfit_at cause line
 
-found_is : (ps : List ℕ) (line : ℕ) (es : List Entry) (o : Option Cause) → elim o as (λ _. Misfit) [ None ↦ misfit ps (line + 1) es | Some cause ↦ misfit_at cause line ] ≡ found ps line es o
+pub found_is : (ps : List ℕ) (line : ℕ) (es : List Entry) (o : Option Cause) → elim o as (λ _. Misfit) [ None ↦ misfit ps (line + 1) es | Some cause ↦ misfit_at cause line ] ≡ found ps line es o
 found_is ps line es None = refl
 found_is ps line es (Some cause) = refl
 
-found_none : (ps : List ℕ) (line : ℕ) (es : List Entry) (o : Option Cause) → found ps line es o ≡ fitting → (o ≡ None) × (misfit ps (line + 1) es ≡ fitting)
+pub found_none : (ps : List ℕ) (line : ℕ) (es : List Entry) (o : Option Cause) → found ps line es o ≡ fitting → (o ≡ None) × (misfit ps (line + 1) es ≡ fitting)
 found_none ps line es None e = (refl, e)
 found_none ps line es (Some cause) e = absurd (let z : ◌≡◌ {A = ℕ} 0 1 = cc in omega arith)
 

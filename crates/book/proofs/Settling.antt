@@ -1,13 +1,17 @@
--- What a text that is not too long is read as, by what its lines gave. Assumes nothing.
-use Rattle.std.proofs.Common.{◌≡◌, ℕ, false, ltb, List, length, sym, ap, ◌∙◌}
-use Rattle.std.proofs.lemmas.Bool.{cond-false}
+-- What a text is read as, by its length and by what its lines gave. Assumes nothing.
+use Rattle.std.proofs.Common.{◌≡◌, ℕ, ◌<◌, ◌≤◌, ltb, List, length, sym, ap, ◌∙◌}
+use Rattle.std.proofs.lemmas.Bool.{cond-true, cond-false, lt-ltb, le-ltb}
 use Rattle.fields.specs.Cutting.{lines}
 use Rattle.book.specs.declared.refusal.Cause.{Cause}
+use Rattle.book.specs.declared.refusal.Cause.TheVariants.{TextTooLong}
 use Rattle.book.specs.Reading.{Entry, Misfit, fitting, misfit_at, passed, stopped, start, check, heads, misfit, forest, Reading, book, refused, settled, reading}
 
-module _ (text : List ℕ) (short : ltb 65536 (length text) ≡ false) where
+pub reading_long : (text : List ℕ) → 65536 < length text → refused TextTooLong 0 0 ≡ reading text
+reading_long text long = sym (cond-true (ltb 65536 (length text)) _ _ (lt-ltb 65536 (length text) long))
+
+module _ (text : List ℕ) (short : length text ≤ 65536) where
   reading_settled : settled (check 1 start (lines text)) ≡ reading text
-  reading_settled = sym (cond-false (ltb 65536 (length text)) _ _ short)
+  reading_settled = sym (cond-false (ltb 65536 (length text)) _ _ (le-ltb 65536 (length text) short))
 
   pub reading_stopped : (cause : Cause) (line field : ℕ) → stopped cause line field ≡ check 1 start (lines text) → refused cause line field ≡ reading text
   reading_stopped cause line field e = ap settled e ∙ reading_settled

@@ -1,44 +1,29 @@
 -- What a well-formed table says of one node and of one rule. Assumes nothing.
-use Rattle.std.proofs.Common.{◌≡◌, ℕ, zero, suc, ◌+◌, ◌<◌, ◌≤◌, true, false, ◌&&◌, eqb, ltb, leb, List, [], ◌∷◌, ◌++◌, length, get_or, take, sym, refl, ap, ◌∙◌, subst, append_assoc, append-nil, arith}
-use Rattle.std.proofs.lemmas.List.{length_push, length-take, length-take-le, take_all, take-take, take_at, get_or-take, get_or_push}
-use Rattle.std.proofs.lemmas.Bool.{both_ways, and_parts, ltb-true, leb-true, eqb-true}
-use Rattle.line.specs.declared.Slots.{Slots}
+use Rattle.std.proofs.Common.{◌≡◌, ℕ, zero, suc, ◌+◌, ◌<◌, true, ◌&&◌, eqb, ltb, leb, List, [], ◌∷◌, ◌++◌, length, get_or, take, sym, refl, ap, ◌∙◌, subst, append_assoc, append-nil, arith}
+use Rattle.std.proofs.lemmas.List.{length_push, length-take, take_all, take-take, take_at, get_or-take, get_or_push}
+use Rattle.std.proofs.lemmas.Bool.{and_parts, ltb-true, leb-true, eqb-true}
+use Rattle.row.specs.declared.Row.{Row}
+use Rattle.row.specs.Items.{items}
 use Rattle.numeral.specs.Reads.{size as magnitude}
-use Rattle.book.specs.declared.Book.{Book}
-use Rattle.book.specs.declared.Table.{Table}
 use Rattle.book.specs.declared.Form.{Form}
 use Rattle.book.specs.declared.Form.TheVariants.{Tell, And, Or, New, Call}
 use Rattle.book.specs.declared.Node.{Node}
 use Rattle.book.specs.declared.Rule.{Rule}
 use Rattle.book.specs.Language.{Goal, conj, disj, fresh, nothing, size, rule_at}
-use Rattle.book.specs.Meaning.{nodes, book_rules}
 use Rattle.book.specs.Table.{grown, goals_of, goal_at, blank, no_rule, scope_at, line_at, part, all_below, slots_fit, form_fits, nested, heads_of, call_fits, calls_fit, rooted, rule_of, rules_of, InScope, Below, Stands, Rooted}
-
--- what is in use is as long as its count says
-pub nodes_used : (t : Table) → length (nodes t) ≡ t.count
-nodes_used t = length-take-le t.count t.goals (omega (arith, t.few, t.room))
-
-pub rules_used_lem : (b : Book) → length (book_rules b) ≡ b.used
-rules_used_lem b = length-take-le b.used b.rules (omega (arith, b.few_rules, b.rules_room))
 
 pub under : {A : Type 0} (n i : ℕ) (xs : List A) → i < length (take n xs) → i < n
 under n i xs h = omega (arith, length-take n xs)
 
-pub each_below : (s n : ℕ) (xs : List ℕ) (j : ℕ) → all_below s n xs ≡ true → j < n → get_or xs j 0 < s
-each_below s zero xs j ok h = absurd (omega arith)
-each_below s (suc n) [] j ok h = absurd (both_ways false refl ok)
-each_below s (suc n) (x ∷ xs) zero ok h = ltb-true _ _ (and_parts _ _ ok).0
-each_below s (suc n) (x ∷ xs) (suc j) ok h = each_below s n xs j (and_parts _ _ ok).1 (omega arith)
+each_below : (s : ℕ) (xs : List ℕ) (j : ℕ) → all_below s xs ≡ true → j < length xs → get_or xs j 0 < s
+each_below s [] j ok h = absurd (omega arith)
+each_below s (x ∷ xs) zero ok h = ltb-true _ _ (and_parts _ _ ok).0
+each_below s (x ∷ xs) (suc j) ok h = each_below s xs j (and_parts _ _ ok).1 (omega arith)
 
-pub below_long : (s n : ℕ) (xs : List ℕ) → all_below s n xs ≡ true → n ≤ length xs
-below_long s zero xs ok = omega arith
-below_long s (suc n) [] ok = absurd (both_ways false refl ok)
-below_long s (suc n) (x ∷ xs) ok = let h = below_long s n xs (and_parts (ltb x s) (all_below s n xs) ok).1 in omega arith
-
-slots_stand : (most scope : ℕ) (s : Slots) → slots_fit most scope s ≡ true → InScope most scope s
+slots_stand : {N : ℕ} (most scope : ℕ) (s : Row ℕ N) → slots_fit most scope s ≡ true → InScope most scope s
 slots_stand most scope s ok =
-    let a = and_parts (leb s.count most) (all_below scope s.count s.places) ok in
-    record { few = leb-true _ _ a.0; all = length-take-le s.count s.places (below_long scope s.count s.places a.1); below = λ j h. each_below scope s.count s.places j a.1 h }
+    let a = and_parts (leb (length (items s)) most) (all_below scope (items s)) ok in
+    record { few = leb-true _ _ a.0; below = λ j h. each_below scope (items s) j a.1 h }
 
 -- the goals before are not changed by those behind
 pub take_goals : (p : List Goal) (ns : List Node) → take (length p) (goals_of p ns) ≡ p
@@ -126,7 +111,7 @@ stands_at rs ns i (New a) ok fits g =
     let x = part_below ns i a (scope_at ns i + 1) (line_at ns i + 1) p.1 in
     (ltb-true _ _ p.0, x, g ∙ ap fresh (get_or-take i (goals_of [] ns) a nothing x.earlier))
 stands_at rs ns i (Call c) ok fits g =
-    let f = and_parts (ltb c.rule (length (heads_of rs))) (eqb c.slots.count (get_or (heads_of rs) c.rule 0)) fits in
+    let f = and_parts (ltb c.rule (length (heads_of rs))) (eqb (length (items c.slots)) (get_or (heads_of rs) c.rule 0)) fits in
     let inside : c.rule < length (heads_of rs) = ltb-true _ _ f.0 in
     (omega (arith, heads_length rs), eqb-true _ _ f.1 ∙ heads_at rs c.rule, slots_stand 16 (scope_at ns i) c.slots ok, g)
 

@@ -2,10 +2,13 @@
 --
 --   entry_of    a line of the draft as the definitions have it
 --   entries     the lines of a draft
+--   rules       how many of them are the heads of rules
+--   goals       how many are goals
 --   state_of    a draft and the scopes awaited, as the state of the check
 --   opened      what is awaited after a goal line, or why it cannot stand
 --   placed_by   the code's answer to a line, as the definitions have it
-use Rattle.std.specs.Prelude.{ℕ, ◌+◌, cond, List, ◌∷◌, map, length, take, Some, None, Ok, Err, Option, Result, nat_lt, slice_index}
+use Rattle.std.specs.Prelude.{ℕ, ◌+◌, ◌-◌, cond, List, ◌∷◌, map, length, Some, None, Ok, Err, Option, Result, nat_lt, slice_index}
+use Rattle.row.specs.Items.{items}
 use Rattle.line.specs.declared.Fault.{Fault}
 use Rattle.line.specs.Reading.{Outcome, said, wrong}
 use Rattle.line.specs.Statements.{Statement, a_rule, a_tell, an_and, an_or, a_new, a_call}
@@ -20,10 +23,16 @@ use Rattle.book.specs.Meaning.{meaning}
 use Rattle.book.specs.Reading.{Entry, State, Placed, placed, barred, stray, Misfit, fitting, misfit_at, Checked, passed, stopped, cause_of, field_of, place, Reading, book, refused}
 
 abbrev pub entries : Draft → List Entry
-entries d = map entry_of (take d.count d.listed)
+entries d = map entry_of (items d.listed)
+
+abbrev pub rules : Draft → ℕ
+rules d = length (items d.params)
+
+abbrev pub goals : Draft → ℕ
+goals d = length (items d.listed) - rules d
 
 abbrev pub state_of : Draft → List ℕ → State
-state_of d awaited = record { entries = entries d; rules = d.rules; goals = d.goals; awaited = awaited }
+state_of d awaited = record { entries = entries d; rules = rules d; goals = goals d; awaited = awaited }
 
 -- the goals awaited after a line that stands where one was awaited, or why it cannot stand
 pub data Opened : Type 0 where

@@ -3,6 +3,7 @@ pub mod Table
 pub mod Meaning
 pub mod Listing
 pub mod Reading
+pub mod Printing
 pub mod Lists
 pub mod Drafts
 pub mod Building

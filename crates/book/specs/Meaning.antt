@@ -1,5 +1,6 @@
 -- What a table and a book of the code stand for. Assumes nothing.
-use Rattle.std.specs.Prelude.{ℕ, List, take}
+use Rattle.std.specs.Prelude.{ℕ, List}
+use Rattle.row.specs.Items.{items}
 use Rattle.book.specs.declared.Book.{Book}
 use Rattle.book.specs.declared.Node.{Node}
 use Rattle.book.specs.declared.Rule.{Rule}
@@ -7,15 +8,15 @@ use Rattle.book.specs.declared.Table.{Table}
 use Rattle.book.specs.Language.{Rules}
 use Rattle.book.specs.Table.{rules_of, heads_of}
 
--- the nodes in use
+-- the nodes of a table
 abbrev pub nodes : Table → List Node
-nodes t = take t.count t.goals
+nodes t = items t.goals
 
 abbrev pub book_nodes : Book → List Node
 book_nodes b = nodes b.table
 
 abbrev pub book_rules : Book → List Rule
-book_rules b = take b.used b.rules
+book_rules b = items b.rules
 
 abbrev pub heads : Book → List ℕ
 heads b = heads_of (book_rules b)

@@ -13,9 +13,9 @@
 --   rooted      each rule has its goal, and the rules stand one behind the other in the text, up to its end
 --   Stands      what holds of a node in a well-formed table, for whoever walks it
 --   Rooted      what holds of a rule
-use Rattle.std.specs.Prelude.{◌≡◌, ℕ, zero, suc, ◌+◌, ◌<◌, ◌≤◌, Bool, true, false, ◌&&◌, List, [], ◌∷◌, ◌++◌, length, get_or, pos, ◌==◌, nat_le, nat_lt, slice_index, slice_index_or}
-use Rattle.line.specs.declared.Slots.{Slots}
-use Rattle.line.specs.Slots.{slots_of}
+use Rattle.std.specs.Prelude.{◌≡◌, ℕ, ◌+◌, ◌<◌, ◌≤◌, Bool, true, ◌&&◌, List, [], ◌∷◌, ◌++◌, length, get_or, ◌==◌, nat_le, nat_lt, slice_index, slice_index_or}
+use Rattle.row.specs.declared.Row.{Row}
+use Rattle.row.specs.Items.{items}
 use Rattle.numeral.specs.Reads.{size as magnitude}
 use Rattle.book.specs.declared.Form.{Form}
 use Rattle.book.specs.declared.Form.TheVariants.{Tell, And, Or, New, Call}
@@ -25,11 +25,11 @@ use Rattle.book.specs.Language as L
 use Rattle.book.specs.Language.{Goal, tell, conj, disj, fresh, call, nothing, size, Rules}
 
 abbrev pub grown : List Goal → Form → Goal
-grown before (Tell t) = tell t.code t.k (slots_of t.slots)
+grown before (Tell t) = tell t.code t.k (items t.slots)
 grown before (And a b) = conj (slice_index_or before a nothing) (slice_index_or before b nothing)
 grown before (Or a b) = disj (slice_index_or before a nothing) (slice_index_or before b nothing)
 grown before (New a) = fresh (slice_index_or before a nothing)
-grown before (Call c) = call c.rule (slots_of c.slots)
+grown before (Call c) = call c.rule (items c.slots)
 
 abbrev pub goals_of : List Goal → List Node → List Goal
 goals_of before [] = before
@@ -40,7 +40,7 @@ goal_at ns i = slice_index_or (goals_of [] ns) i nothing
 
 -- what an array of nodes gives past its end
 abbrev pub blank : Node
-blank = record { form = Tell (record { code = 0; k = pos 0; slots = record { count = 0; places = [] } }); scope = 0; line = 0 }
+blank = record { form = New 0; scope = 0; line = 0 }
 
 abbrev pub no_rule : Rule
 no_rule = record { params = 0; goal = 0 }
@@ -55,14 +55,13 @@ line_at ns i = (get_or ns i blank).line
 abbrev pub part : List Node → ℕ → ℕ → ℕ → Bool
 part ns i scope line = nat_lt i (length ns) && (scope_at ns i == scope && line_at ns i == line)
 
--- the first n of the places are there and name slots in scope
-abbrev pub all_below : ℕ → ℕ → List ℕ → Bool
-all_below scope zero places = true
-all_below scope (suc n) [] = false
-all_below scope (suc n) (x ∷ xs) = nat_lt x scope && all_below scope n xs
+-- each is one of the slots in scope
+abbrev pub all_below : ℕ → List ℕ → Bool
+all_below scope [] = true
+all_below scope (x ∷ xs) = nat_lt x scope && all_below scope xs
 
-abbrev pub slots_fit : ℕ → ℕ → Slots → Bool
-slots_fit most scope s = nat_le s.count most && all_below scope s.count s.places
+abbrev pub slots_fit : {N : ℕ} → ℕ → ℕ → Row ℕ N → Bool
+slots_fit most scope s = nat_le (length (items s)) most && all_below scope (items s)
 
 abbrev pub form_fits : List Node → ℕ → ℕ → Form → Bool
 form_fits ns scope line (Tell t) = nat_le t.code 255 && (nat_le (magnitude t.k) 1000 && slots_fit 3 scope t.slots)
@@ -84,7 +83,7 @@ call_fits heads (Tell t) = true
 call_fits heads (And a b) = true
 call_fits heads (Or a b) = true
 call_fits heads (New a) = true
-call_fits heads (Call c) = nat_lt c.rule (length heads) && c.slots.count == slice_index heads c.rule
+call_fits heads (Call c) = nat_lt c.rule (length heads) && length (items c.slots) == slice_index heads c.rule
 
 abbrev pub calls_fit : List ℕ → List Node → Bool
 calls_fit heads [] = true
@@ -104,10 +103,9 @@ rules_of ns [] = []
 rules_of ns (r ∷ rs) = rule_of ns r ∷ rules_of ns rs
 
 -- slots that a goal may have, where so many are in scope
-pub record InScope (most scope : ℕ) (s : Slots) : Type 0 where
-  pub few : s.count ≤ most
-  pub all : length (slots_of s) ≡ s.count
-  pub below : (j : ℕ) → j < s.count → slice_index s.places j < scope
+pub record InScope {N : ℕ} (most scope : ℕ) (s : Row ℕ N) : Type 0 where
+  pub few : length (items s) ≤ most
+  pub below : (j : ℕ) → j < length (items s) → slice_index (items s) j < scope
 
 -- node a is before node i, with so many slots in scope, on that line
 pub record Below (ns : List Node) (i a scope line : ℕ) : Type 0 where
@@ -116,11 +114,11 @@ pub record Below (ns : List Node) (i a scope line : ℕ) : Type 0 where
   pub lined : line_at ns a ≡ line
 
 abbrev pub Stands : List Rule → List Node → ℕ → Form → Type 0
-Stands rs ns i (Tell t) = (t.code ≤ 255) × (magnitude t.k ≤ 1000) × InScope 3 (scope_at ns i) t.slots × (goal_at ns i ≡ tell t.code t.k (slots_of t.slots))
+Stands rs ns i (Tell t) = (t.code ≤ 255) × (magnitude t.k ≤ 1000) × InScope 3 (scope_at ns i) t.slots × (goal_at ns i ≡ tell t.code t.k (items t.slots))
 Stands rs ns i (And a b) = Below ns i a (scope_at ns i) (line_at ns i + 1) × Below ns i b (scope_at ns i) (line_at ns i + 1 + size (goal_at ns a)) × (goal_at ns i ≡ conj (goal_at ns a) (goal_at ns b))
 Stands rs ns i (Or a b) = Below ns i a (scope_at ns i) (line_at ns i + 1) × Below ns i b (scope_at ns i) (line_at ns i + 1 + size (goal_at ns a)) × (goal_at ns i ≡ disj (goal_at ns a) (goal_at ns b))
 Stands rs ns i (New a) = (scope_at ns i < 16) × Below ns i a (scope_at ns i + 1) (line_at ns i + 1) × (goal_at ns i ≡ fresh (goal_at ns a))
-Stands rs ns i (Call c) = (c.rule < length rs) × (c.slots.count ≡ (get_or rs c.rule no_rule).params) × InScope 16 (scope_at ns i) c.slots × (goal_at ns i ≡ call c.rule (slots_of c.slots))
+Stands rs ns i (Call c) = (c.rule < length rs) × (length (items c.slots) ≡ (get_or rs c.rule no_rule).params) × InScope 16 (scope_at ns i) c.slots × (goal_at ns i ≡ call c.rule (items c.slots))
 
 abbrev pub Rooted : List Node → Rule → Type 0
 Rooted ns r = (r.params ≤ 16) × (r.goal < length ns) × (scope_at ns r.goal ≡ r.params)

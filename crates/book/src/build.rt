@@ -9,25 +9,18 @@ ghost use Rattle.stack.specs.Items.{items, room};
 
 use super::drafts::{Draft, Listed};
 use super::{Book, Form, Node, Rule, Table};
-use line::Line;
+use line::{Line, Row};
 use stack::Stack;
 
 impl Table {
     // One goal more, above goals that are there.
+    #[tactic(auto, using(crate::proofs::Grows::nested_more))]
     fn add(&mut self, node: Node)
         requires room { length (nodes self.old) < 1024 }
         requires fits { form_fits (nodes self.old) node.scope node.line node.form ≡ true }
         ensures { nodes self.new ≡ nodes self.old ++ node ∷ [] }
     {
-        self.goals[self.count] = node;
-        self.count += 1;
-    }
-
-    fn len(&self) -> usize
-        ensures value { result ≡ length (nodes self.now) }
-        ensures few { result ≤ 1024 }
-    {
-        self.count
+        self.goals.push(node);
     }
 }
 
@@ -76,7 +69,7 @@ fn plant(table: &mut Table, roots: &mut Stack<u16>, listed: Listed, line: u16)
     ensures room { room roots.new ≡ room roots.old }
 {
     let form = form_of(roots, listed.line);
-    let at = table.len() as u16;
+    let at = table.goals.len() as u16;
     table.add(Node {
         form,
         scope: listed.scope,
@@ -94,22 +87,16 @@ pub(crate) fn build(draft: &Draft) -> Book
     let mut table = Table::empty();
     let mut slots = [0u16; 1024];
     let mut roots = Stack::new(&mut slots);
-    let mut rules = [Rule { params: 0, goal: 0 }; 64];
-    // Rules from here on have their goals.
-    let mut whole = draft.rules;
-    for at in (0..draft.count).rev() {
-        let listed = draft.listed[at];
+    let mut rules = Row::new(Rule { params: 0, goal: 0 });
+    for (at, listed) in draft.listed.as_slice().iter().enumerate().rev() {
         if let Line::Rule { params } = listed.line {
             let goal = waiting(&mut roots);
-            whole -= 1;
-            rules[whole] = Rule { params, goal };
+            rules.push(Rule { params, goal });
         } else {
-            plant(&mut table, &mut roots, listed, at as u16 + 1);
+            plant(&mut table, &mut roots, *listed, at as u16 + 1);
         }
     }
-    Book {
-        table,
-        rules,
-        used: draft.rules,
-    }
+    // The last rule was met first.
+    rules.reverse();
+    Book { table, rules }
 }

@@ -1,10 +1,11 @@
 // A rule book as a table of goals. Every value of `Book` is well formed, so its parts and calls are followed with no check.
 #![tactic(auto)]
 
-ghost use Rattle.std.specs.Prelude.{◌≡◌, ◌+◌, ◌≤◌, true, [], length, take};
+ghost use Rattle.std.specs.Prelude.{◌≡◌, ◌+◌, true, [], length};
 ghost use Rattle.book.specs.Table.{nested, heads_of, calls_fit, rooted};
+ghost use Rattle.row.specs.Items.{items};
 
-pub use line::{Call, Slots, Tell};
+pub use line::{Call, Row, Tell};
 
 mod build;
 mod calls;
@@ -44,21 +45,15 @@ pub struct Rule {
 // Goals, each behind those below it: a table that is being filled is well formed at every moment.
 #[derive(Clone, Copy)]
 pub(crate) struct Table {
-    goals: [Node; 1024],
-    count: usize,
-    ghost room: { length goals ≡ 1024 },
-    ghost few: { count ≤ 1024 },
-    ghost well: { nested [] (take count goals) ≡ true },
+    goals: Row<Node, 1024>,
+    ghost well: { nested [] (items goals) ≡ true },
 }
 
 // Each rule has its goal, and each call fits the rule that it names.
 #[derive(Clone, Copy)]
 pub struct Book {
     table: Table,
-    rules: [Rule; 64],
-    used: usize,
-    ghost rules_room: { length rules ≡ 64 },
-    ghost few_rules: { used ≤ 64 },
-    ghost well_rooted: { rooted (take table.count table.goals) (used + table.count + 1) 1 (take used rules) ≡ true },
-    ghost well_called: { calls_fit (heads_of (take used rules)) (take table.count table.goals) ≡ true },
+    rules: Row<Rule, 64>,
+    ghost well_rooted: { rooted (items table.goals) (length (items rules) + length (items table.goals) + 1) 1 (items rules) ≡ true },
+    ghost well_called: { calls_fit (heads_of (items rules)) (items table.goals) ≡ true },
 }

@@ -1,31 +1,23 @@
 // One line after another finds its place in a draft.
-ghost use Rattle.std.specs.Prelude.{◌≡◌, ◌+◌, ◌<◌, ◌≤◌, true, [], ◌∷◌, ◌++◌, length, Ok, Err, OnOk, nat_lt};
-ghost use Rattle.book.specs.Drafts.{entries, state_of, opened, opened_by, strayed, placed_by};
+ghost use Rattle.std.specs.Prelude.{◌≡◌, ◌+◌, ◌<◌, ◌≤◌, true, [], ◌∷◌, ◌++◌, length, Ok, Err, OnOk};
+ghost use Rattle.book.specs.Drafts.{entries, rules, goals, state_of, opened, opened_by, strayed, placed_by};
 ghost use Rattle.book.specs.Reading.{start, stray, heads, place_rule_lem, place_goal_lem, place};
-ghost use Rattle.line.specs.Slots.{says, slots_of, slots_sized, sized};
+ghost use Rattle.line.specs.Says.{says};
 ghost use Rattle.stack.specs.Items.{items, room};
 
 use super::drafts::{Draft, Listed};
 use super::refusal::{Barred, Cause};
-use line::{Line, Slots};
+use line::{Line, Row};
 use stack::Stack;
 
-// The slot is one of those in scope.
-fn is_in(slot: u8, scope: u8) -> bool
-    ensures { result ≡ nat_lt slot scope }
-{
-    slot < scope
-}
-
 // The slots are in scope. `before` is the number of the field before them.
-fn in_scope(slots: &Slots, scope: u8, before: usize) -> Result<(), Barred>
-    requires sized { slots_sized slots.now ≡ true }
-    requires few { (slots.now.count ≤ 16) × (before ≤ 3) }
+fn in_scope(slots: &[u8], scope: u8, before: usize) -> Result<(), Barred>
+    requires { before ≤ 3 }
     ensures cause { elim result [ Ok u ↦ Unit {0} | Err b ↦ b.cause ≡ Cause.NotInScope ] }
-    ensures field { strayed result ≡ stray scope before (slots_of slots.now) }
+    ensures field { strayed result ≡ stray scope before slots.now }
 {
-    for j in 0..slots.count as usize {
-        if !is_in(slots.places[j], scope) {
+    for (j, slot) in slots.iter().enumerate() {
+        if *slot >= scope {
             return Err(Barred {
                 cause: Cause::NotInScope,
                 field: before + j + 1,
@@ -37,7 +29,6 @@ fn in_scope(slots: &Slots, scope: u8, before: usize) -> Result<(), Barred>
 
 // What is awaited after a line that stands where a goal with `scope` slots was awaited.
 fn open_below(awaited: &mut Stack<u8>, line: Line, scope: u8) -> Result<(), Barred>
-    requires sized { sized line ≡ true }
     requires room { length (items awaited.old) + 1 < room awaited.old }
     ensures does { opened (says line) scope (items awaited.old) ≡ opened_by result (items awaited.new) }
     ensures room { room awaited.new ≡ room awaited.old }
@@ -45,7 +36,7 @@ fn open_below(awaited: &mut Stack<u8>, line: Line, scope: u8) -> Result<(), Barr
 {
     match line {
         Line::Rule { .. } => Err(Barred::line(Cause::RuleTooEarly)),
-        Line::Tell(tell) => in_scope(&tell.slots, scope, 3),
+        Line::Tell(tell) => in_scope(tell.slots.as_slice(), scope, 3),
         Line::And | Line::Or => {
             let _ = awaited.push(scope);
             let _ = awaited.push(scope);
@@ -58,7 +49,7 @@ fn open_below(awaited: &mut Stack<u8>, line: Line, scope: u8) -> Result<(), Barr
             let _ = awaited.push(scope + 1);
             Ok(())
         }
-        Line::Call(call) => in_scope(&call.slots, scope, 2),
+        Line::Call(call) => in_scope(call.slots.as_slice(), scope, 2),
     }
 }
 
@@ -72,52 +63,52 @@ impl Draft {
             scope: 0,
         };
         Draft {
-            listed: [none; 1088],
-            count: 0,
-            params: [0; 64],
-            rules: 0,
-            goals: 0,
+            listed: Row::new(none),
+            params: Row::new(0),
         }
+    }
+
+    // How many of the lines are goals.
+    #[tactic(auto, using(crate::proofs::Built::rules_few))]
+    fn goals(&self) -> usize
+        ensures { result ≡ goals self.now }
+    {
+        self.listed.len() - self.params.len()
     }
 
     // A goal line behind the others.
     fn add_goal(&mut self, line: Line, scope: u8)
-        requires few { self.old.goals < 1024 }
-        requires sized { sized line ≡ true }
+        requires few { goals self.old < 1024 }
         requires goal { heads (record { says = says line; scope = scope } ∷ []) ≡ [] }
         ensures entries { entries self.new ≡ entries self.old ++ record { says = says line; scope = scope } ∷ [] }
-        ensures counts { (self.new.rules ≡ self.old.rules) × (self.new.goals ≡ self.old.goals + 1) }
+        ensures counts { (rules self.new ≡ rules self.old) × (goals self.new ≡ goals self.old + 1) }
     {
-        self.listed[self.count] = Listed { line, scope };
-        self.count += 1;
-        self.goals += 1;
+        self.listed.push(Listed { line, scope });
     }
 
     // A rule line behind the others.
     fn add_rule(&mut self, params: u8)
-        requires few { self.old.rules < 64 }
+        requires few { rules self.old < 64 }
         ensures entries { entries self.new ≡ entries self.old ++ record { says = says (Line.Rule params); scope = params } ∷ [] }
-        ensures counts { (self.new.rules ≡ self.old.rules + 1) × (self.new.goals ≡ self.old.goals) }
+        ensures counts { (rules self.new ≡ rules self.old + 1) × (goals self.new ≡ goals self.old) }
     {
-        self.listed[self.count] = Listed {
+        self.listed.push(Listed {
             line: Line::Rule { params },
             scope: params,
-        };
-        self.count += 1;
-        self.params[self.rules] = params;
-        self.rules += 1;
+        });
+        self.params.push(params);
     }
 
     fn place_rule(&mut self, awaited: &mut Stack<u8>, params: u8) -> Result<(), Barred>
         requires room { room awaited.old ≡ 1025 }
         ensures does { place_rule_lem (state_of self.old (items awaited.old)) params (items awaited.old) ≡ placed_by result (state_of self.new (items awaited.new)) }
         ensures room { room awaited.new ≡ 1025 }
-        ensures few { OnOk result (length (items awaited.new) ≤ self.new.goals + 1) }
+        ensures few { OnOk result (length (items awaited.new) ≤ goals self.new + 1) }
     {
         if !awaited.is_empty() {
             return Err(Barred::line(Cause::RuleTooEarly));
         }
-        if self.rules >= 64 {
+        if self.params.is_full() {
             return Err(Barred::line(Cause::TooManyRules));
         }
         self.add_rule(params);
@@ -126,17 +117,14 @@ impl Draft {
     }
 
     fn place_goal(&mut self, awaited: &mut Stack<u8>, line: Line) -> Result<(), Barred>
-        requires sized { sized line ≡ true }
         requires room { room awaited.old ≡ 1025 }
-        requires few { length (items awaited.old) ≤ self.old.goals + 1 }
+        requires few { length (items awaited.old) ≤ goals self.old + 1 }
         ensures does { place_goal_lem (state_of self.old (items awaited.old)) (says line) (items awaited.old) ≡ placed_by result (state_of self.new (items awaited.new)) }
         ensures room { room awaited.new ≡ 1025 }
-        ensures few { OnOk result (length (items awaited.new) ≤ self.new.goals + 1) }
+        ensures few { OnOk result (length (items awaited.new) ≤ goals self.new + 1) }
     {
-        let Some(scope) = awaited.pop() else {
-            return Err(Barred::line(Cause::GoalNotAwaited));
-        };
-        if self.goals >= 1024 {
+        let scope = awaited.pop().ok_or(Barred::line(Cause::GoalNotAwaited))?;
+        if self.goals() >= 1024 {
             return Err(Barred::line(Cause::TooManyGoals));
         }
         open_below(awaited, line, scope)?;
@@ -146,12 +134,11 @@ impl Draft {
 
     // One more line, or why it cannot stand here.
     pub(crate) fn place(&mut self, awaited: &mut Stack<u8>, line: Line) -> Result<(), Barred>
-        requires sized { sized line ≡ true }
         requires room { room awaited.old ≡ 1025 }
-        requires few { length (items awaited.old) ≤ self.old.goals + 1 }
+        requires few { length (items awaited.old) ≤ goals self.old + 1 }
         ensures does { place (state_of self.old (items awaited.old)) (says line) ≡ placed_by result (state_of self.new (items awaited.new)) }
         ensures room { room awaited.new ≡ 1025 }
-        ensures few { OnOk result (length (items awaited.new) ≤ self.new.goals + 1) }
+        ensures few { OnOk result (length (items awaited.new) ≤ goals self.new + 1) }
     {
         match line {
             Line::Rule { params } => self.place_rule(awaited, params),

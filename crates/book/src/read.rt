@@ -1,9 +1,9 @@
 // The reader: a text becomes a book, or is refused.
-ghost use Rattle.std.specs.Prelude.{◌≡◌, ◌+◌, ◌≤◌, [], length, OnErr, OnOk, nat_lt};
+ghost use Rattle.std.specs.Prelude.{◌≡◌, ◌+◌, ◌≤◌, [], length, OnErr, OnOk};
 ghost use Rattle.fields.specs.Cursor.{here, later};
 ghost use Rattle.fields.specs.Cutting.{lines};
 ghost use Rattle.line.specs.Reading.{outcome};
-ghost use Rattle.book.specs.Drafts.{state_of, gathered, parsed, taken, placed_by, barred_by};
+ghost use Rattle.book.specs.Drafts.{goals, state_of, gathered, parsed, taken, placed_by, barred_by};
 ghost use Rattle.book.specs.Meaning.{book_rules, book_nodes, meaning};
 ghost use Rattle.book.specs.Reading.{start, check, reading, answered, ReadsBooks};
 ghost use Rattle.stack.specs.Items.{items, room};
@@ -35,10 +35,10 @@ impl Draft {
     // The line whose fields are next, in its place.
     fn take_line(&mut self, fields: &mut Fields, awaited: &mut Stack<u8>) -> Result<(), Barred>
         requires room { room awaited.old ≡ 1025 }
-        requires few { length (items awaited.old) ≤ self.old.goals + 1 }
+        requires few { length (items awaited.old) ≤ goals self.old + 1 }
         ensures does { taken (state_of self.old (items awaited.old)) (outcome fields.old.given (here fields.old)) ≡ placed_by result (state_of self.new (items awaited.new)) }
         ensures room { room awaited.new ≡ 1025 }
-        ensures few { OnOk result (length (items awaited.new) ≤ self.new.goals + 1) }
+        ensures few { OnOk result (length (items awaited.new) ≤ goals self.new + 1) }
         ensures behind { later fields.new ≡ later fields.old }
         ensures number { fields.new.line ≡ fields.old.line }
     {
@@ -56,35 +56,22 @@ fn gather(text: &[u8]) -> Result<Draft, Refusal>
     let mut awaited = Stack::new(&mut scopes);
     let mut fields = Fields::new(text);
     while let Some(line) = fields.next_line() {
-        if let Err(barred) = draft.take_line(&mut fields, &mut awaited) {
-            return Err(Refusal {
-                cause: barred.cause,
-                line,
-                field: barred.field,
-            });
-        }
+        draft
+            .take_line(&mut fields, &mut awaited)
+            .map_err(|barred| barred.at(line))?;
     }
     if awaited.is_empty() {
         return Ok(draft);
     }
-    Err(Refusal {
-        cause: Cause::TextEnds,
-        line: draft.count + 1,
-        field: 1,
-    })
-}
-
-fn is_too_long(text: &[u8]) -> bool
-    ensures { result ≡ nat_lt 65536 (length text.now) }
-{
-    text.len() > 65536
+    Err(Barred::line(Cause::TextEnds).at(draft.listed.len() + 1))
 }
 
 // The book that a text is, by its lines and then by its calls.
-fn settle(text: &[u8]) -> Result<Book, Refusal>
+#[tactic(auto, using(crate::proofs::Settling::reading_long, crate::proofs::Settling::reading_stopped, crate::proofs::Settling::reading_misfit, crate::proofs::Settling::reading_book))]
+fn parse(text: &[u8]) -> Result<Book, Refusal>
     ensures { parsed result ≡ reading text.now }
 {
-    if is_too_long(text) {
+    if text.len() > 65536 {
         return Err(Refusal {
             cause: Cause::TextTooLong,
             line: 0,
@@ -96,16 +83,9 @@ fn settle(text: &[u8]) -> Result<Book, Refusal>
     Ok(build(&draft))
 }
 
-// The same, with the law that it keeps.
-fn parse(text: &[u8]) -> Result<Book, Refusal>
-    ensures does { parsed result ≡ reading text.now }
-    ensures law { ReadsBooks text.now (parsed result) }
-{
-    settle(text)
-}
-
 impl Book {
     // Fills the book from `text`, if this is a book. A refusal says what is wrong and where, and leaves the book empty.
+    #[tactic(auto, using(crate::proofs::Law::reads_books))]
     pub fn read(&mut self, text: &[u8]) -> Result<(), Refusal>
         ensures does { answered result (meaning self.new) ≡ reading text.now }
         ensures law { ReadsBooks text.now (answered result (meaning self.new)) }

@@ -5,14 +5,12 @@ ghost use Rattle.book.specs.Listing.{IsBook};
 ghost use Rattle.book.specs.Meaning.{nodes, book_nodes, book_rules, meaning};
 ghost use Rattle.book.specs.Table.{blank, no_rule, rule_of, scope_at, line_at, Stands, Rooted};
 
-use super::{Book, Form, Node, Rule, Table};
-use line::{Slots, Tell};
+use super::{Book, Form, Node, Row, Rule, Table};
 
 impl Table {
     // No goal yet.
     pub fn empty() -> Table
-        ensures nodes { nodes result ≡ [] }
-        ensures count { result.count ≡ 0 }
+        ensures { nodes result ≡ [] }
     {
         let unused = Node {
             form: Form::New { goal: 0 },
@@ -20,8 +18,7 @@ impl Table {
             line: 0,
         };
         Table {
-            goals: [unused; 1024],
-            count: 0,
+            goals: Row::new(unused),
         }
     }
 }
@@ -34,55 +31,38 @@ impl Book {
     {
         Book {
             table: Table::empty(),
-            rules: [Rule { params: 0, goal: 0 }; 64],
-            used: 0,
+            rules: Row::new(Rule { params: 0, goal: 0 }),
         }
     }
 
     // How many rules there are. Whatever the book: it is within the limits, and well formed.
+    #[tactic(auto, using(crate::proofs::Every::every_book, crate::proofs::Walks::rules_length))]
     pub fn rule_count(&self) -> usize
         ensures rules { result ≡ length (book_rules self.now) }
         ensures means { result ≡ length (meaning self.now) }
         ensures well { IsBook (meaning self.now) }
     {
-        self.rules_used()
-    }
-
-    fn rules_used(&self) -> usize
-        ensures { result ≡ self.now.used }
-    {
-        self.used
+        self.rules.len()
     }
 
     // How many goals all rules have together.
+    #[tactic(auto, using(crate::proofs::Every::goals_all))]
     pub fn goal_count(&self) -> usize
         ensures nodes { result ≡ length (book_nodes self.now) }
         ensures means { result ≡ total (meaning self.now) }
     {
-        self.goals_used()
-    }
-
-    fn goals_used(&self) -> usize
-        ensures { result ≡ self.now.table.count }
-    {
-        self.table.count
+        self.table.goals.len()
     }
 
     // A rule: how many parameters it has, and where its goal is.
+    #[tactic(auto, using(crate::proofs::Every::rooted_in, crate::proofs::Every::meant_in))]
     pub fn rule(&self, r: usize) -> Rule
         requires { r < length (book_rules self.now) }
         ensures value { result ≡ slice_index_or (book_rules self.now) r no_rule }
         ensures rooted { Rooted (book_nodes self.now) result }
         ensures means { rule_at (meaning self.now) r ≡ rule_of (book_nodes self.now) result }
     {
-        self.rule_in_use(r)
-    }
-
-    fn rule_in_use(&self, r: usize) -> Rule
-        requires { r < length (book_rules self.now) }
-        ensures { result ≡ slice_index_or self.now.rules r no_rule }
-    {
-        self.rules[r]
+        self.rules.as_slice()[r]
     }
 
     // What a goal is, with the goals below it.
@@ -120,6 +100,7 @@ impl Book {
     }
 
     // The line behind the goal of a rule: the next rule, or the end of the text.
+    #[tactic(auto, using(crate::proofs::Every::size_between, crate::proofs::Every::size_last, crate::proofs::Every::next_below))]
     fn end_of(&self, r: usize) -> usize
         requires { r < length (book_rules self.now) }
         ensures { result ≡ line_at (book_nodes self.now) (get_or (book_rules self.now) r no_rule).goal + size (rule_at (meaning self.now) r).goal }
@@ -131,11 +112,12 @@ impl Book {
         }
     }
 
+    #[tactic(auto, using(crate::proofs::Every::stands_in))]
     fn node(&self, goal: u16) -> Node
         requires { goal < length (book_nodes self.now) }
         ensures value { result ≡ slice_index_or (book_nodes self.now) goal blank }
         ensures stands { Stands (book_rules self.now) (book_nodes self.now) goal result.form }
     {
-        self.table.goals[goal as usize]
+        self.table.goals.as_slice()[goal as usize]
     }
 }

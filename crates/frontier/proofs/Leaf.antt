@@ -17,7 +17,6 @@ use Rattle.book.specs.Table.{blank, rule_of, InScope, Rooted}
 use Rattle.book.specs.Table.{Stands as FormStands}
 use Rattle.line.specs.declared.Call.{Call as CallOf}
 use Rattle.line.specs.declared.Tell.{Tell as TellOf}
-use Rattle.line.specs.Slots.{slots_of}
 use Rattle.numeral.specs.Reads.{size}
 use Rattle.machine.specs.Machine.{Side, left, right, Frame, Tree as MachineTree, leaf, branch, chain, Step, vars_of_lem, told_at}
 use Rattle.machine.specs.Machine.{step_tell_lem, step_fail, step_conj, step_disj, step_fresh, step_call}
@@ -33,12 +32,11 @@ use Rattle.frontier.specs.declared.tree.Task.{Task}
 use Rattle.frontier.specs.declared.tree.Tree.{Tree, Branch, Chain}
 use Rattle.frontier.specs.declared.tree.Tree.TheVariants.{Leaf}
 use Rattle.frontier.specs.Books.{Reads, known}
-use Rattle.frontier.specs.Frames.{list_of, Sized}
+use Rattle.row.specs.Items.{items}
 use Rattle.frontier.specs.declared.tree.Stepped.{Stepped}
 use Rattle.frontier.specs.Steps.{Ready, Went, Next, AtFresh, AtOr, adds, Stops, Boxed, tells, Telling, Told, TellDoes, Seconds}
 use Rattle.frontier.specs.Trees.{boxes, In, Apart, leaves, Kept, Tasked, Stands, Elsewhere}
 use Rattle.frontier.proofs.Fill.{narrow, widen}
-use Rattle.frontier.proofs.Frames.{sized_length}
 use Rattle.frontier.proofs.Places.{at_tell, at_and, at_or, at_new, at_call}
 
 -- A leaf's state is a leaf.
@@ -71,8 +69,8 @@ same_else : {m : Meaning} (P : ℕ → Type 0) → Elsewhere m m P
 same_else P = record { live = λ x no h. h; solutions = λ x no h σ. refl }
 
 -- the condition as the machine has it
-told_same : (t : TellOf) (e f : Frame) (c : Condition) → e ≡ f → c ≡ told_at t.code t.k (slots_of t.slots) e → c ≡ told_at t.code t.k (slots_of t.slots) f
-told_same t e f c h k = k ∙ ap (λ (r : Frame). told_at t.code t.k (slots_of t.slots) r) h
+told_same : (t : TellOf) (e f : Frame) (c : Condition) → e ≡ f → c ≡ told_at t.code t.k (items t.slots) e → c ≡ told_at t.code t.k (items t.slots) f
+told_same t e f c h k = k ∙ ap (λ (r : Frame). told_at t.code t.k (items t.slots) r) h
 
 lt_of_le : (n V : ℕ) → n ≤ V → (n ≡ V → ⊥) → suc n ≤ V
 lt_of_le n V l h = elim (eq-or-lt_of_le l) [ inl e ↦ absurd (h e) | inr k ↦ k ]
@@ -85,18 +83,18 @@ kept_task :
     {K : Kind} {V : ℕ} {book : Book} {m n : Meaning} (l : Task) (a s : ℕ) {g h : Goal} {f : Frame} {k : ℕ} {told : List Condition}
     → Tasked K V book m l g f k told → Reads book (length f) a h → Kept K V n s told
     → Tasked K V book n (record { goal = a; frame = l.frame; n = l.n; store = s }) h f k told
-kept_task l a s t r kept = record { goal = r; sized = t.sized; frame = t.frame; count = t.count; within = t.within; store = kept }
+kept_task l a s t r kept = record { goal = r; frame = t.frame; count = t.count; within = t.within; store = kept }
 
 module _ {K : Kind} {V : ℕ} {book : Book} {rules : Rules} {m : Meaning} where
   tell_went :
       {n : Meaning} (u : Tree) (l : Task) (T : MachineTree) (o : TellOf) (d : Condition) → FormStands (book_rules book) (book_nodes book) l.goal (Tell o)
-      → d ≡ told_at o.code o.k (slots_of o.slots) (list_of l.frame) → Accepted K V m n l.store d
+      → d ≡ told_at o.code o.k (items o.slots) (items l.frame) → Accepted K V m n l.store d
       → Ready K V book rules m (Leaf l) T → Went K V book rules m n (Leaf l) u T (Some (record { n = l.n; store = l.store })) true
   tell_went {n} u l T o d it says acc r =
       let a = at_leaf l T r in
       let t = a.tasked in
       let i = at_tell t.goal o it in
-      let c = told_at o.code o.k (slots_of o.slots) a.f in
+      let c = told_at o.code o.k (items o.slots) a.f in
       let acc' = subst (Accepted K V m n l.store) (told_same o _ a.f d t.frame says) acc in
       let sol = acc'.some in
       let more : (σ : Assignment) → n.solutions l.store σ ≡ solves K V (a.told ++ (c ∷ [])) σ =
@@ -120,7 +118,7 @@ module _ {K : Kind} {V : ℕ} {book : Book} {rules : Rules} {m : Meaning} where
 
   tell_failed :
       {n : Meaning} (u : Tree) (l : Task) (T : MachineTree) (o : TellOf) (d : Condition) → FormStands (book_rules book) (book_nodes book) l.goal (Tell o)
-      → d ≡ told_at o.code o.k (slots_of o.slots) (list_of l.frame) → ((σ : Assignment) → (m.solutions l.store σ && holds_at K d σ) ≡ false)
+      → d ≡ told_at o.code o.k (items o.slots) (items l.frame) → ((σ : Assignment) → (m.solutions l.store σ && holds_at K d σ) ≡ false)
       → Released m n l.store → (v : Value) × (K.admits v ≡ true)
       → Ready K V book rules m (Leaf l) T → Went K V book rules m n (Leaf l) u T None true
   tell_failed {n} u l T o d it says never rel val r =
@@ -129,7 +127,7 @@ module _ {K : Kind} {V : ℕ} {book : Book} {rules : Rules} {m : Meaning} where
       let i = at_tell t.goal o it in
       let code = o.code in
       let k = o.k in
-      let slots = slots_of o.slots in
+      let slots = items o.slots in
       let c = told_at code k slots a.f in
       let fits : Fits rules (length a.f) (tell code k slots) = subst (λ (g : Goal). Fits rules (length a.f) g) (sym i.is) a.fits in
       let loc : Local K (from a.n (a.told ++ (c ∷ [])) a.ch) =
@@ -191,7 +189,6 @@ module _ {K : Kind} {V : ℕ} {book : Book} {rules : Rules} {m : Meaning} where
         left = (
           subst (λ (w : Tree). Stands K V book m w (leaf d.first a.f a.n a.told a.ch)) (sym e) (kept_task l x l.store t d.reads_first t.store),
           d.reads_second,
-          t.sized,
           t.frame,
         );
         answer = tt;
@@ -255,9 +252,9 @@ module _ {K : Kind} {V : ℕ} {book : Book} {rules : Rules} {m : Meaning} where
   leaf_went :
       (u l : Task) (T : MachineTree) (a : AtLeaf K V book rules m l T) (h g : Goal) (f : Frame) (k : ℕ) → h ≡ a.g
       → Step K rules (leaf h a.f a.n a.told a.ch) None (Some (leaf g f k a.told a.ch))
-      → Reads book (length f) u.goal g → Sized u.frame → list_of u.frame ≡ f → u.n ≡ k → k ≤ V → u.store ≡ l.store
+      → Reads book (length f) u.goal g → items u.frame ≡ f → u.n ≡ k → k ≤ V → u.store ≡ l.store
       → Went K V book rules m m (Leaf l) (Leaf u) T None false
-  leaf_went u l T a h g f k is step reads sz fr en within es =
+  leaf_went u l T a h g f k is step reads fr en within es =
       subst (λ (S : MachineTree). Went K V book rules m m (Leaf l) (Leaf u) S None false) a.is
       (subst (λ (g : Goal). Went K V book rules m m (Leaf l) (Leaf u) (leaf g a.f a.n a.told a.ch) None false) is
       (record {
@@ -266,7 +263,6 @@ module _ {K : Kind} {V : ℕ} {book : Book} {rules : Rules} {m : Meaning} where
         step = step;
         left = record {
           goal = reads;
-          sized = sz;
           frame = fr;
           count = en;
           within = within;
@@ -283,62 +279,54 @@ module _ {K : Kind} {V : ℕ} {book : Book} {rules : Rules} {m : Meaning} where
 
   pub fresh_went :
       (u l : Task) (T : MachineTree) (a : ℕ) → FormStands (book_rules book) (book_nodes book) l.goal (New a) → (l.n ≡ V → ⊥)
-      → u.goal ≡ a → Sized u.frame → list_of u.frame ≡ list_of l.frame ++ (l.n ∷ []) → u.n ≡ l.n + 1 → u.store ≡ l.store
+      → u.goal ≡ a → items u.frame ≡ items l.frame ++ (l.n ∷ []) → u.n ≡ l.n + 1 → u.store ≡ l.store
       → Ready K V book rules m (Leaf l) T → Went K V book rules m m (Leaf l) (Leaf u) T None false
-  fresh_went u l T x it small eg sz fr en es r =
+  fresh_went u l T x it small eg fr en es r =
       let a = at_leaf l T r in
       let t = a.tasked in
       let d = at_new t.goal x it in
       let f' = a.f ++ (a.n ∷ []) in
       let reads : Reads book (length f') u.goal d.inner =
       subst (λ (i : ℕ). Reads book (length f') i d.inner) (sym eg) (subst (λ (p : ℕ). Reads book p x d.inner) (sym (frame_push a.f a.n refl)) d.reads) in
-      let frame' : list_of u.frame ≡ f' = fr ∙ ap (λ (r : Frame). r ++ (l.n ∷ [])) t.frame ∙ ap (λ (k : ℕ). a.f ++ (k ∷ [])) t.count in
-      leaf_went u l T a (fresh d.inner) d.inner f' (suc a.n) d.is step_fresh reads sz frame' (omega (arith, t.count)) (lt_of_le a.n V t.within (λ e. small (t.count ∙ e))) es
+      let frame' : items u.frame ≡ f' = fr ∙ ap (λ (r : Frame). r ++ (l.n ∷ [])) t.frame ∙ ap (λ (k : ℕ). a.f ++ (k ∷ [])) t.count in
+      leaf_went u l T a (fresh d.inner) d.inner f' (suc a.n) d.is step_fresh reads frame' (omega (arith, t.count)) (lt_of_le a.n V t.within (λ e. small (t.count ∙ e))) es
 
   pub call_went :
       (u l : Task) (T : MachineTree) (c : CallOf) (q : RuleOf) → FormStands (book_rules book) (book_nodes book) l.goal (Call c)
       → Rooted (book_nodes book) q → rule_at (meaning book) c.rule ≡ rule_of (book_nodes book) q
-      → u.goal ≡ q.goal → Sized u.frame → list_of u.frame ≡ vars_of_lem (list_of l.frame) (slots_of c.slots) → u.n ≡ l.n → u.store ≡ l.store
+      → u.goal ≡ q.goal → items u.frame ≡ vars_of_lem (items l.frame) (items c.slots) → u.n ≡ l.n → u.store ≡ l.store
       → Ready K V book rules m (Leaf l) T → Went K V book rules m m (Leaf l) (Leaf u) T None false
-  call_went u l T c q it root means eg sz fr en es r =
+  call_went u l T c q it root means eg fr en es r =
       let a = at_leaf l T r in
       let t = a.tasked in
       let d = at_call t.goal c it in
-      let slots = slots_of c.slots in
+      let slots = items c.slots in
       let fits : Fits rules (length a.f) (call c.rule slots) = subst (λ (g : Goal). Fits rules (length a.f) g) (sym d.is) a.fits in
       let f' = vars_of_lem a.f slots in
-      let frame' : list_of u.frame ≡ f' = fr ∙ ap (λ (r : Frame). vars_of_lem r slots) t.frame in
+      let frame' : items u.frame ≡ f' = fr ∙ ap (λ (r : Frame). vars_of_lem r slots) t.frame in
       let same : rule_at rules c.rule ≡ rule_of (book_nodes book) q = sym (ap (λ (rs : Rules). rule_at rs c.rule) r.copies.means) ∙ means in
       let len : length f' ≡ q.params = length-map slots (λ s. get_or a.f s 0) ∙ fits.1 ∙ ap (λ (q : Rule). q.params) same in
       let reads : Reads book (length f') u.goal (rule_at rules c.rule).goal =
       subst (λ (i : ℕ). Reads book (length f') i (rule_at rules c.rule).goal) (sym eg)
       (record { inside = root.1; scoped = root.2 ∙ sym len; is = sym (ap (λ (q : Rule). q.goal) same) }) in
-      leaf_went u l T a (call c.rule slots) (rule_at rules c.rule).goal f' a.n d.is step_call reads sz frame' (en ∙ t.count) t.within es
+      leaf_went u l T a (call c.rule slots) (rule_at rules c.rule).goal f' a.n d.is step_call reads frame' (en ∙ t.count) t.within es
+
+  -- what holds of the leaf's goal holds where the next step takes place
+  at_goal : (P : Goal → ℕ → Type 0) (l : Task) (T : MachineTree) (a : AtLeaf K V book rules m l T) (g : Goal) → g ≡ a.g → P g a.n → Next P T
+  at_goal P l T a g is h = subst (λ (S : MachineTree). Next P S) a.is (subst (λ (g : Goal). P g a.n) is h)
 
   -- why no step was made
   pub or_short : {k : ℕ} (l : Task) (T : MachineTree) (a b : ℕ) → FormStands (book_rules book) (book_nodes book) l.goal (Or a b) → k < 2 → Ready K V book rules m (Leaf l) T → Next (λ g n. k < adds g) T
-  or_short {k} l T x y it h r =
-      let a = at_leaf l T r in
-      let d = at_or a.tasked.goal x y it in
-      subst (λ (S : MachineTree). Next (λ g n. k < adds g) S) a.is (subst (λ (g : Goal). k < adds g) d.is h)
+  or_short {k} l T x y it h r = let a = at_leaf l T r in at_goal (λ g n. k < adds g) l T a _ (at_or a.tasked.goal x y it).is h
 
   pub and_short : {k : ℕ} (l : Task) (T : MachineTree) (a b : ℕ) → FormStands (book_rules book) (book_nodes book) l.goal (And a b) → k < 1 → Ready K V book rules m (Leaf l) T → Next (λ g n. k < adds g) T
-  and_short {k} l T x y it h r =
-      let a = at_leaf l T r in
-      let d = at_and a.tasked.goal x y it in
-      subst (λ (S : MachineTree). Next (λ g n. k < adds g) S) a.is (subst (λ (g : Goal). k < adds g) d.is h)
+  and_short {k} l T x y it h r = let a = at_leaf l T r in at_goal (λ g n. k < adds g) l T a _ (at_and a.tasked.goal x y it).is h
 
   pub new_full : (l : Task) (T : MachineTree) (a : ℕ) → FormStands (book_rules book) (book_nodes book) l.goal (New a) → l.n ≡ V → Ready K V book rules m (Leaf l) T → Next (λ g n. AtFresh V g n) T
-  new_full l T x it h r =
-      let a = at_leaf l T r in
-      let d = at_new a.tasked.goal x it in
-      subst (λ (S : MachineTree). Next (λ g n. AtFresh V g n) S) a.is (subst (λ (g : Goal). AtFresh V g a.n) d.is (sym a.tasked.count ∙ h))
+  new_full l T x it h r = let a = at_leaf l T r in at_goal (λ g n. AtFresh V g n) l T a _ (at_new a.tasked.goal x it).is (sym a.tasked.count ∙ h)
 
   pub at_disj : {k : ℕ} (l : Task) (T : MachineTree) (a b : ℕ) → FormStands (book_rules book) (book_nodes book) l.goal (Or a b) → 2 ≤ k → Ready K V book rules m (Leaf l) T → Next (λ g n. AtOr g × (adds g ≤ k)) T
-  at_disj {k} l T x y it h r =
-      let a = at_leaf l T r in
-      let d = at_or a.tasked.goal x y it in
-      subst (λ (S : MachineTree). Next (λ g n. AtOr g × (adds g ≤ k)) S) a.is (subst (λ (g : Goal). AtOr g × (adds g ≤ k)) d.is (tt, h))
+  at_disj {k} l T x y it h r = let a = at_leaf l T r in at_goal (λ g n. AtOr g × (adds g ≤ k)) l T a _ (at_or a.tasked.goal x y it).is (tt, h)
 
 -- a store for the other side of a branch is refused only where none is spare
 pub record NoSecond (m n : Meaning) (e : Stop) : Type 0 where
@@ -396,16 +384,13 @@ module _ {K : Kind} {V : ℕ} {book : Book} {rules : Rules} {m : Meaning} where
   pub store_live : (l : Task) (T : MachineTree) → Ready K V book rules m (Leaf l) T → m.live l.store ≡ true
   store_live l T r = (at_leaf l T r).tasked.store.live
 
-  pub frame_sized : (l : Task) (T : MachineTree) → Ready K V book rules m (Leaf l) T → Sized l.frame
-  frame_sized l T r = (at_leaf l T r).tasked.sized
-
   pub few_variables : (l : Task) (T : MachineTree) → Ready K V book rules m (Leaf l) T → l.n ≤ V
   few_variables l T r = let t = (at_leaf l T r).tasked in omega (arith, t.count, t.within)
 
-  frame_count : (l : Task) (T : MachineTree) (r : Ready K V book rules m (Leaf l) T) → length (at_leaf l T r).f ≡ l.frame.count
-  frame_count l T r = let t = (at_leaf l T r).tasked in sym (ap (λ (f : Frame). length f) t.frame) ∙ sized_length l.frame t.sized
+  frame_count : (l : Task) (T : MachineTree) (r : Ready K V book rules m (Leaf l) T) → length (at_leaf l T r).f ≡ length (items l.frame)
+  frame_count l T r = let t = (at_leaf l T r).tasked in sym (ap (λ (f : Frame). length f) t.frame)
 
-  pub frame_room : (l : Task) (T : MachineTree) (a : ℕ) → FormStands (book_rules book) (book_nodes book) l.goal (New a) → Ready K V book rules m (Leaf l) T → l.frame.count < 16
+  pub frame_room : (l : Task) (T : MachineTree) (a : ℕ) → FormStands (book_rules book) (book_nodes book) l.goal (New a) → Ready K V book rules m (Leaf l) T → length (items l.frame) < 16
   frame_room l T x it r =
       let d = at_new (at_leaf l T r).tasked.goal x it in
       omega (arith, d.room, frame_count l T r)
@@ -417,19 +402,18 @@ module _ {K : Kind} {V : ℕ} {book : Book} {rules : Rules} {m : Meaning} where
       let a = at_leaf l T r in
       let k = a.tasked in
       let d = at_tell k.goal t it in
-      let slots = slots_of t.slots in
+      let slots = items t.slots in
       let fits : Fits rules (length a.f) (tell t.code t.k slots) = subst (λ (g : Goal). Fits rules (length a.f) g) (sym d.is) a.fits in
-      let knows : takes (K.arity t.code) t.slots.count ≡ true = ap (λ (f : Form). known K f) here ∙ r.copies.known l.goal k.goal.inside in
-      let len : length (vars_of_lem (list_of l.frame) slots) ≡ t.slots.count = length-map slots (λ s. get_or (list_of l.frame) s 0) ∙ d.scope.all in
+      let knows : takes (K.arity t.code) (length (items t.slots)) ≡ true = ap (λ (f : Form). known K f) here ∙ r.copies.known l.goal k.goal.inside in
+      let len : length (vars_of_lem (items l.frame) slots) ≡ length (items t.slots) = length-map slots (λ s. get_or (items l.frame) s 0) in
       record {
-        sized = k.sized;
-        scope = record { few = d.scope.few; all = d.scope.all; below = λ j h. let b = d.scope.below j h in omega (arith, frame_count l T r) };
+        scope = record { few = d.scope.few; below = λ j h. let b = d.scope.below j h in omega (arith, frame_count l T r) };
         formed = and_from _ _ (ap (takes (K.arity t.code)) len ∙ knows) (le-leb _ _ (let s = d.small in omega (arith, same_size t.k)));
         within = subst (λ (f : Frame). all_below V (vars_of_lem f slots) ≡ true) (sym k.frame)
             (all_in_range V _ (below_later a.n V _ k.within (slots_below a.n a.f slots refl a.below fits)));
       }
 
-  pub call_scope : (l : Task) (T : MachineTree) (c : CallOf) → FormStands (book_rules book) (book_nodes book) l.goal (Call c) → Ready K V book rules m (Leaf l) T → InScope 16 l.frame.count c.slots
+  pub call_scope : (l : Task) (T : MachineTree) (c : CallOf) → FormStands (book_rules book) (book_nodes book) l.goal (Call c) → Ready K V book rules m (Leaf l) T → InScope 16 (length (items l.frame)) c.slots
   call_scope l T c it r =
       let d = at_call (at_leaf l T r).tasked.goal c it in
-      record { few = d.scope.few; all = d.scope.all; below = λ j h. let b = d.scope.below j h in omega (arith, frame_count l T r) }
+      record { few = d.scope.few; below = λ j h. let b = d.scope.below j h in omega (arith, frame_count l T r) }

@@ -1,6 +1,5 @@
 pub mod Fill
 pub mod Scopes
-pub mod Frames
 pub mod Places
 pub mod Leaf
 pub mod Moves

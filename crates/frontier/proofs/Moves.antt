@@ -4,7 +4,7 @@ use Rattle.std.proofs.lemmas.Bool.{both_ways}
 use Rattle.std.specs.declared.alloc.Global.{Global}
 use Rattle.frontier.specs.declared.tree.Tree.{Tree, Branch, Chain}
 use Rattle.frontier.specs.declared.tree.Tree.TheVariants.{Leaf, Branch', Chain'}
-use Rattle.frontier.specs.declared.tree.Frame.{Frame as FrameOf}
+use Rattle.row.specs.declared.Row.{Row}
 use Rattle.frontier.specs.declared.tree.Found.{Found}
 use Rattle.book.specs.declared.Book.{Book}
 use Rattle.frontier.specs.declared.stop.Stop.{Stop}
@@ -14,7 +14,7 @@ use Rattle.book.specs.Language.{Goal, Rules}
 use Rattle.machine.specs.Machine.{Frame, Answer, State, Tree as MachineTree, leaf, branch, chain, Step, step_branch, step_chain, leaf_from}
 use Rattle.bank.specs.Views.{Meaning}
 use Rattle.frontier.specs.Books.{Reads}
-use Rattle.frontier.specs.Frames.{list_of, Sized}
+use Rattle.row.specs.Items.{items}
 use Rattle.frontier.specs.Trees.{In, Apart, leaves, Stands, Left, Answers, Given, Elsewhere}
 use Rattle.frontier.specs.Steps.{Ready, Went, Stops, TakesUp}
 
@@ -38,7 +38,6 @@ module _ (K : Kind) (V : ℕ) (book : Book) (m : Meaning) where
       → Stands K V book m t T → Stands K V book n t T
   frame P e (Leaf l) (leaf g f n told ch) off_it s = record {
     goal = s.goal;
-    sized = s.sized;
     frame = s.frame;
     count = s.count;
     within = s.within;
@@ -55,7 +54,7 @@ module _ (K : Kind) (V : ℕ) (book : Book) (m : Meaning) where
   frame P e (Branch' p a q b) (chain A g f) off_it s = absurd s
   frame P e (Chain' p a h k) (leaf g f n told ch) off_it s = absurd s
   frame P e (Chain' p a h k) (branch A B) off_it s = absurd s
-  frame P e (Chain' p a h k) (chain A g f) off_it s = (frame P e a A off_it s.0, s.1, s.2, s.3)
+  frame P e (Chain' p a h k) (chain A g f) off_it s = (frame P e a A off_it s.0, s.1, s.2)
 
 module _ (K : Kind) (V : ℕ) (n : Meaning) where
   pub no_answer : (o : Option Answer) → Given K V n None o → o ≡ None
@@ -100,17 +99,16 @@ at_branch a b (branch A B) r = record {
 at_branch a b (chain A g f) r = absurd r.stands
 
 -- A chain's state is a chain.
-pub record AtChain (K : Kind) (V : ℕ) (book : Book) (rules : Rules) (m : Meaning) (a : Tree) (i : ℕ) (e : FrameOf) (T : MachineTree) : Type 0 where
+pub record AtChain (K : Kind) (V : ℕ) (book : Book) (rules : Rules) (m : Meaning) (a : Tree) (i : ℕ) (e : Row ℕ 16) (T : MachineTree) : Type 0 where
   pub A : MachineTree
   pub g : Goal
   pub f : Frame
   pub is : chain A g f ≡ T
   pub first : Ready K V book rules m a A
   pub reads : Reads book (length f) i g
-  pub sized : Sized e
-  pub frame_is : list_of e ≡ f
+  pub frame_is : items e ≡ f
 
-pub at_chain : {K : Kind} {V : ℕ} {book : Book} {rules : Rules} {m : Meaning} (a : Box Tree Global) (i : ℕ) (e : FrameOf) (T : MachineTree) → Ready K V book rules m (Chain a i e) T → AtChain K V book rules m a.value i e T
+pub at_chain : {K : Kind} {V : ℕ} {book : Book} {rules : Rules} {m : Meaning} (a : Box Tree Global) (i : ℕ) (e : Row ℕ 16) (T : MachineTree) → Ready K V book rules m (Chain a i e) T → AtChain K V book rules m a.value i e T
 at_chain a i e (leaf g f n told ch) r = absurd r.stands
 at_chain a i e (branch A B) r = absurd r.stands
 at_chain a i e (chain A g f) r = record {
@@ -120,12 +118,11 @@ at_chain a i e (chain A g f) r = record {
   is = refl;
   first = record { copies = r.copies; stands = r.stands.0; scoped = r.scoped.0; apart = r.apart };
   reads = r.stands.1;
-  sized = r.stands.2;
-  frame_is = r.stands.3;
+  frame_is = r.stands.2;
 }
 
 -- the leaf that takes up an answer
-abbrev pub taken : ℕ → FrameOf → Found → Tree
+abbrev pub taken : ℕ → Row ℕ 16 → Found → Tree
 taken i e y = Leaf (record { goal = i; frame = e; n = y.n; store = y.store })
 
 step_as : {K : Kind} {rules : Rules} {A : MachineTree} {o o' : Option Answer} {S S' : State} → o ≡ o' → S ≡ S' → Step K rules A o S → Step K rules A o' S'
@@ -206,7 +203,7 @@ module _ {K : Kind} {V : ℕ} {book : Book} {rules : Rules} {m n : Meaning} wher
       })
 
   pub chain_ended :
-      (a : Box Tree Global) (i : ℕ) (e : FrameOf) (u w : Tree) (T : MachineTree) → Ready K V book rules m (Chain a i e) T
+      (a : Box Tree Global) (i : ℕ) (e : Row ℕ 16) (u w : Tree) (T : MachineTree) → Ready K V book rules m (Chain a i e) T
       → ((A : MachineTree) → Ready K V book rules m a.value A → Went K V book rules m n a.value u A None true)
       → Went K V book rules m n (Chain a i e) w T None true
   chain_ended a i e u w T r sub =
@@ -228,7 +225,7 @@ module _ {K : Kind} {V : ℕ} {book : Book} {rules : Rules} {m n : Meaning} wher
       })
 
   pub chain_on :
-      (a p : Box Tree Global) (i : ℕ) (e : FrameOf) (u : Tree) (T : MachineTree) → p.value ≡ u → Ready K V book rules m (Chain a i e) T
+      (a p : Box Tree Global) (i : ℕ) (e : Row ℕ 16) (u : Tree) (T : MachineTree) → p.value ≡ u → Ready K V book rules m (Chain a i e) T
       → ((A : MachineTree) → Ready K V book rules m a.value A → Went K V book rules m n a.value u A None false)
       → Went K V book rules m n (Chain a i e) (Chain p i e) T None false
   chain_on a p i e u T h r sub =
@@ -241,7 +238,7 @@ module _ {K : Kind} {V : ℕ} {book : Book} {rules : Rules} {m n : Meaning} wher
         given = None;
         rest = Some (chain go.0 k.g k.f);
         step = step_chain (step_as (no_answer K V n s.given s.answer) go.1 s.step);
-        left = (subst (λ (w : Tree). Stands K V book n w go.0) (sym h) go.2, k.reads, k.sized, k.frame_is);
+        left = (subst (λ (w : Tree). Stands K V book n w go.0) (sym h) go.2, k.reads, k.frame_is);
         answer = tt;
         mine = λ z y. elim y [ inl j ↦ s.mine z (inl (in_p z j)) | inr j ↦ absurd j ];
         gone = λ z no. s.gone z (λ o. elim o [ inl y ↦ no (inl (subst (λ (w : Tree). In w z) (sym h) y)) | inr y ↦ absurd y ]);
@@ -252,7 +249,7 @@ module _ {K : Kind} {V : ℕ} {book : Book} {rules : Rules} {m n : Meaning} wher
       })
 
   chain_last :
-      (a : Box Tree Global) (i : ℕ) (e : FrameOf) (u w : Tree) (T : MachineTree) (y : Found) → w ≡ taken i e y → Ready K V book rules m (Chain a i e) T
+      (a : Box Tree Global) (i : ℕ) (e : Row ℕ 16) (u w : Tree) (T : MachineTree) (y : Found) → w ≡ taken i e y → Ready K V book rules m (Chain a i e) T
       → ((A : MachineTree) → Ready K V book rules m a.value A → Went K V book rules m n a.value u A (Some y) true)
       → Went K V book rules m n (Chain a i e) w T None false
   chain_last a i e u w T y h r sub =
@@ -265,7 +262,7 @@ module _ {K : Kind} {V : ℕ} {book : Book} {rules : Rules} {m n : Meaning} wher
         rest = Some (leaf_from k.g k.f o.0);
         step = step_chain (step_as o.1 (nothing_left K V book n u s.rest s.left) s.step);
         left = subst (λ (w : Tree). Stands K V book n w (leaf_from k.g k.f o.0)) (sym h)
-            (record { goal = k.reads; sized = k.sized; frame = k.frame_is; count = o.2.count; within = o.2.within; store = o.2.store });
+            (record { goal = k.reads; frame = k.frame_is; count = o.2.count; within = o.2.within; store = o.2.store });
         answer = tt;
         mine = λ z q. elim q [ inl j ↦ s.mine z (inr (subst (λ (w : Tree). In w z) h j)) | inr j ↦ absurd j ];
         gone = λ z no. s.gone z (λ o. elim o [ inl j ↦ absurd j | inr j ↦ no (inl (subst (λ (w : Tree). In w z) (sym h) j)) ]);
@@ -276,7 +273,7 @@ module _ {K : Kind} {V : ℕ} {book : Book} {rules : Rules} {m n : Meaning} wher
       })
 
   chain_split :
-      (a c p q : Box Tree Global) (i : ℕ) (e : FrameOf) (u : Tree) (T : MachineTree) (y : Found)
+      (a c p q : Box Tree Global) (i : ℕ) (e : Row ℕ 16) (u : Tree) (T : MachineTree) (y : Found)
       → p.value ≡ taken i e y → q.value ≡ Chain c i e → c.value ≡ u → Ready K V book rules m (Chain a i e) T
       → ((A : MachineTree) → Ready K V book rules m a.value A → Went K V book rules m n a.value u A (Some y) false)
       → Went K V book rules m n (Chain a i e) (Branch p q) T None false
@@ -294,9 +291,9 @@ module _ {K : Kind} {V : ℕ} {book : Book} {rules : Rules} {m n : Meaning} wher
         step = step_chain (step_as o.1 go.1 s.step);
         left = (
           subst (λ (w : Tree). Stands K V book n w (leaf_from k.g k.f o.0)) (sym hp)
-              (record { goal = k.reads; sized = k.sized; frame = k.frame_is; count = o.2.count; within = o.2.within; store = o.2.store }),
+              (record { goal = k.reads; frame = k.frame_is; count = o.2.count; within = o.2.within; store = o.2.store }),
           subst (λ (w : Tree). Stands K V book n w (chain go.0 k.g k.f)) (sym hq)
-              (subst (λ (w : Tree). Stands K V book n w go.0) (sym hc) go.2, k.reads, k.sized, k.frame_is),
+              (subst (λ (w : Tree). Stands K V book n w go.0) (sym hc) go.2, k.reads, k.frame_is),
         );
         answer = tt;
         mine = λ z w. elim w [
@@ -322,7 +319,7 @@ module _ {K : Kind} {V : ℕ} {book : Book} {rules : Rules} {m : Meaning} where
   branch_stops a b T k Variables r sub = let x = at_branch a b T r in subst (λ (S : MachineTree). Stops V m k S Variables) x.is (sub x.A x.first)
   branch_stops a b T k (Stores e) r sub = let x = at_branch a b T r in subst (λ (S : MachineTree). Stops V m k S (Stores e)) x.is (sub x.A x.first)
 
-  pub chain_stops : (a : Box Tree Global) (i : ℕ) (s : FrameOf) (T : MachineTree) (k : ℕ) (e : Stop) → Ready K V book rules m (Chain a i s) T
+  pub chain_stops : (a : Box Tree Global) (i : ℕ) (s : Row ℕ 16) (T : MachineTree) (k : ℕ) (e : Stop) → Ready K V book rules m (Chain a i s) T
       → ((A : MachineTree) → Ready K V book rules m a.value A → Stops V m k A e) → Stops V m k T e
   chain_stops a i s T k Nodes r sub = let x = at_chain a i s T r in subst (λ (S : MachineTree). Stops V m k S Nodes) x.is (sub x.A x.first)
   chain_stops a i s T k Variables r sub = let x = at_chain a i s T r in subst (λ (S : MachineTree). Stops V m k S Variables) x.is (sub x.A x.first)
@@ -330,7 +327,7 @@ module _ {K : Kind} {V : ℕ} {book : Book} {rules : Rules} {m : Meaning} where
 
 -- a chain's answer is taken up, whether or not something is left of its tree
 pub chain_taken :
-    {K : Kind} {V : ℕ} {book : Book} {rules : Rules} {m n : Meaning} (d : Bool) (a c : Box Tree Global) (i : ℕ) (e : FrameOf) (u w l : Tree) (T : MachineTree) (y : Found)
+    {K : Kind} {V : ℕ} {book : Book} {rules : Rules} {m n : Meaning} (d : Bool) (a c : Box Tree Global) (i : ℕ) (e : Row ℕ 16) (u w l : Tree) (T : MachineTree) (y : Found)
     → TakesUp d (Chain c i e) l w → l ≡ taken i e y → c.value ≡ u → Ready K V book rules m (Chain a i e) T
     → ((A : MachineTree) → Ready K V book rules m a.value A → Went K V book rules m n a.value u A (Some y) d)
     → Went K V book rules m n (Chain a i e) w T None false

@@ -4,10 +4,10 @@ use Rattle.book.specs.declared.Book.{Book}
 use Rattle.book.specs.declared.Form.TheVariants.{Tell, And, Or, New, Call}
 use Rattle.book.specs.Language.{Goal, tell, conj, disj, fresh, call}
 use Rattle.book.specs.Meaning.{book_nodes, book_rules}
+use Rattle.row.specs.Items.{items}
 use Rattle.book.specs.Table.{goal_at, InScope, Below, Stands}
 use Rattle.line.specs.declared.Call.{Call as CallOf}
 use Rattle.line.specs.declared.Tell.{Tell as TellOf}
-use Rattle.line.specs.Slots.{slots_of}
 use Rattle.numeral.specs.Reads.{size}
 use Rattle.frontier.specs.Books.{Reads}
 
@@ -19,7 +19,7 @@ as_scoped : {book : Book} {i : ℕ} {g : Goal} (p q : ℕ) → p ≡ q → Reads
 as_scoped p q e r = record { inside = r.inside; scoped = r.scoped ∙ e; is = r.is }
 
 pub record IsTell (g : Goal) (p : ℕ) (t : TellOf) : Type 0 where
-  pub is : tell t.code t.k (slots_of t.slots) ≡ g
+  pub is : tell t.code t.k (items t.slots) ≡ g
   pub small : size t.k ≤ 1000
   pub scope : InScope 3 p t.slots
 
@@ -37,12 +37,12 @@ pub record IsNew (book : Book) (p : ℕ) (g : Goal) (a : ℕ) : Type 0 where
   pub reads : Reads book (suc p) a inner
 
 pub record IsCall (book : Book) (p : ℕ) (g : Goal) (c : CallOf) : Type 0 where
-  pub is : call c.rule (slots_of c.slots) ≡ g
+  pub is : call c.rule (items c.slots) ≡ g
   pub inside : c.rule < length (book_rules book)
   pub scope : InScope 16 p c.slots
 
 scoped_as : {most : ℕ} (p q : ℕ) (t : TellOf) → p ≡ q → InScope most p t.slots → InScope most q t.slots
-scoped_as p q t e z = record { few = z.few; all = z.all; below = λ j h. let k = z.below j h in omega (arith, e) }
+scoped_as p q t e z = record { few = z.few; below = λ j h. let k = z.below j h in omega (arith, e) }
 
 module _ {book : Book} {p i : ℕ} {g : Goal} (r : Reads book p i g) where
   pub at_tell : (t : TellOf) → Stands (book_rules book) (book_nodes book) i (Tell t) → IsTell g p t
@@ -80,5 +80,5 @@ module _ {book : Book} {p i : ℕ} {g : Goal} (r : Reads book p i g) where
   at_call c s = record {
     is = sym s.3 ∙ r.is;
     inside = s.0;
-    scope = record { few = s.2.few; all = s.2.all; below = λ j h. let k = s.2.below j h in let e = r.scoped in omega arith };
+    scope = record { few = s.2.few; below = λ j h. let k = s.2.below j h in let e = r.scoped in omega arith };
   }

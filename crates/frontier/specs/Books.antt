@@ -13,10 +13,11 @@ use Rattle.book.specs.declared.Form.TheVariants.{Tell, And, Or, New, Call}
 use Rattle.book.specs.declared.Node.{Node}
 use Rattle.book.specs.Language.{Goal, Rules, WellFormed}
 use Rattle.book.specs.Meaning.{book_nodes, meaning}
+use Rattle.row.specs.Items.{items}
 use Rattle.book.specs.Table.{blank, goal_at, scope_at}
 
 abbrev pub known : Kind → Form → Bool
-known K (Tell t) = takes (K.arity t.code) t.slots.count
+known K (Tell t) = takes (K.arity t.code) (length (items t.slots))
 known K (And a b) = true
 known K (Or a b) = true
 known K (New a) = true

@@ -1,4 +1,3 @@
-pub mod Frames
 pub mod Books
 pub mod Trees
 pub mod Steps

@@ -26,7 +26,6 @@ use Rattle.bank.specs.Views.{Meaning}
 use Rattle.book.specs.declared.Book.{Book}
 use Rattle.book.specs.Table.{InScope}
 use Rattle.line.specs.declared.Tell.{Tell}
-use Rattle.line.specs.Slots.{slots_of}
 use Rattle.book.specs.Language.{Goal, tell, conj, disj, fresh, call, Rules, Fits}
 use Rattle.machine.specs.Machine.{Frame, Answer, State, Tree as MachineTree, leaf, branch, chain, Step, told_at}
 use Rattle.machine.proofs.Frames.{Below}
@@ -39,7 +38,7 @@ use Rattle.frontier.specs.declared.tree.Stepped.{Stepped}
 use Rattle.frontier.specs.declared.stop.Stop.{Stop}
 use Rattle.frontier.specs.declared.stop.Stop.TheVariants.{Nodes, Variables, Stores}
 use Rattle.frontier.specs.Books.{Copies}
-use Rattle.frontier.specs.Frames.{list_of, Sized}
+use Rattle.row.specs.Items.{items}
 use Rattle.frontier.specs.Trees.{boxes, In, Apart, leaves, Stands, Left, Given, Holds, held, Among, standing, AllApart, Elsewhere}
 
 abbrev pub Least : MachineTree → Frame → Type 0
@@ -118,7 +117,7 @@ StepDoes K V book m n t u l (Ok r) = (rules : Rules) (T : MachineTree) → Ready
 StepDoes K V book m n t u l (Err e) = Stayed m n t u × ((rules : Rules) (T : MachineTree) → Ready K V book rules m t T → Stops V m l T e)
 
 abbrev pub tells : Task → Tell → Condition
-tells l t = told_at t.code t.k (slots_of t.slots) (list_of l.frame)
+tells l t = told_at t.code t.k (items t.slots) (items l.frame)
 
 -- From l spare boxes to l'.
 abbrev pub Boxed : ℕ → ℕ → Tree → Result Stepped Stop → Type 0
@@ -127,8 +126,7 @@ Boxed l l' u (Err e) = Unit {0}
 
 -- The frame has the slots of a tell, the kind knows the tell, and the variables are there.
 pub record Telling (K : Kind) (V : ℕ) (l : Task) (t : Tell) : Type 0 where
-  pub sized : Sized l.frame
-  pub scope : InScope 3 l.frame.count t.slots
+  pub scope : InScope 3 (length (items l.frame)) t.slots
   pub formed : well_formed K (tells l t) ≡ true
   pub within : in_range V (tells l t) ≡ true
 

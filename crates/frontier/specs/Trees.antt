@@ -30,7 +30,7 @@ use Rattle.frontier.specs.declared.tree.Tree.TheVariants.{Leaf, Branch', Chain'}
 use Rattle.frontier.specs.declared.tree.Task.{Task}
 use Rattle.frontier.specs.declared.tree.Found.{Found}
 use Rattle.frontier.specs.Books.{Reads}
-use Rattle.frontier.specs.Frames.{list_of, Sized}
+use Rattle.row.specs.Items.{items}
 
 abbrev pub In : Tree → ℕ → Type 0
 In (Leaf l) x = l.store ≡ x
@@ -73,8 +73,7 @@ pub record Kept (K : Kind) (V : ℕ) (m : Meaning) (s : ℕ) (told : List Condit
 -- A leaf of the machine, as it is in memory.
 pub record Tasked (K : Kind) (V : ℕ) (book : Book) (m : Meaning) (l : Task) (g : Goal) (f : Frame) (n : ℕ) (told : List Condition) : Type 0 where
   pub goal : Reads book (length f) l.goal g
-  pub sized : Sized l.frame
-  pub frame : list_of l.frame ≡ f
+  pub frame : items l.frame ≡ f
   pub count : l.n ≡ n
   pub within : n ≤ V
   pub store : Kept K V m l.store told
@@ -89,7 +88,7 @@ Stands K V book m (Branch' p a q b) (branch A B) = Stands K V book m a A × Stan
 Stands K V book m (Branch' p a q b) (chain A g f) = ⊥
 Stands K V book m (Chain' p a h e) (leaf g f n told ch) = ⊥
 Stands K V book m (Chain' p a h e) (branch A B) = ⊥
-Stands K V book m (Chain' p a h e) (chain A g f) = Stands K V book m a A × Reads book (length f) h g × Sized e × (list_of e ≡ f)
+Stands K V book m (Chain' p a h e) (chain A g f) = Stands K V book m a A × Reads book (length f) h g × (items e ≡ f)
 
 -- What is left: nothing where the tree has ended.
 abbrev pub Left : Kind → ℕ → Book → Meaning → Bool → Tree → State → Type 0

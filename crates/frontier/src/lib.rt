@@ -6,7 +6,7 @@ mod steps;
 mod stop;
 mod tree;
 
-pub use frame::first;
+pub use frame::{Frame, first};
 pub use steps::step;
 pub use stop::Stop;
-pub use tree::{BLANK, Found, Frame, Stepped, Task, Tree, boxes_made, clear, let_go, next_goal};
+pub use tree::{Found, Stepped, Task, Tree, boxes_made, clear, let_go, next_goal};

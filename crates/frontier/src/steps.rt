@@ -8,7 +8,7 @@ ghost use Rattle.frontier.specs.Trees.{boxes, Flat};
 
 use super::frame::{constraint_at, extend, select};
 use super::stop::Stop;
-use super::tree::{BLANK, FAILED, Found, GOING, Stepped, Task, Tree, boxed, give_back, let_go};
+use super::tree::{FAILED, Found, GOING, Stepped, Task, Tree, boxed, give_back, let_go};
 use bank::Bank;
 use book::{Book, Form, Tell};
 use std::mem;
@@ -53,10 +53,7 @@ fn all_used<B: Bank>(n: u16) -> bool
 fn second_store<B: Bank>(bank: &mut B, store: u16) -> Result<u16, Stop>
     ensures { Seconds (B.Bank.view.meaning bank.old) (B.Bank.view.meaning bank.new) store result }
 {
-    match bank.fork(store) {
-        Ok(second) => Ok(second),
-        Err(e) => Err(Stop::Stores(e)),
-    }
+    bank.fork(store).map_err(Stop::Stores)
 }
 
 // One step of a leaf.
@@ -140,7 +137,7 @@ fn take_up(pool: &mut Vec<Box<Tree>>, t: &mut Tree, leaf: Tree, ended: bool)
         give_back(pool, mem::replace(t, leaf));
     } else {
         let leaf = boxed(pool, leaf);
-        let chain = boxed(pool, mem::replace(t, Tree::Leaf(BLANK)));
+        let chain = boxed(pool, mem::replace(t, Tree::blank()));
         *t = ahead(leaf, chain);
     }
 }
@@ -167,7 +164,7 @@ pub fn step<B: Bank>(
         Tree::Branch(a, b) => {
             let Stepped { answer, ended } = step(book, bank, pool, a)?;
             if ended {
-                let right = mem::replace(&mut **b, Tree::Leaf(BLANK));
+                let right = mem::replace(&mut **b, Tree::blank());
                 give_back(pool, mem::replace(t, right));
             } else {
                 take_turns(a, b);
@@ -182,7 +179,7 @@ pub fn step<B: Bank>(
             match answer {
                 None => {
                     if ended {
-                        give_back(pool, mem::replace(t, Tree::Leaf(BLANK)));
+                        give_back(pool, mem::replace(t, Tree::blank()));
                         Ok(FAILED)
                     } else {
                         Ok(GOING)

@@ -4,16 +4,11 @@ ghost use Rattle.bank.specs.Calls.{Released};
 ghost use Rattle.frontier.specs.declared.tree.Tree.TheVariants.{Leaf};
 ghost use Rattle.frontier.specs.Trees.{boxes, Flat, In, Apart, leaves, next_goal_lem, Cleared};
 
+use super::frame::Frame;
 use bank::Bank;
+use book::Row;
 use std::alloc::{AllocError, Global};
 use std::mem;
-
-// The variable of each slot in scope: the first `count` are in use.
-#[derive(Clone, Copy)]
-pub struct Frame {
-    pub count: u8,
-    pub variables: [u16; 16],
-}
 
 // A goal to solve in a store of which n variables are in use.
 #[derive(Clone, Copy)]
@@ -40,7 +35,7 @@ pub struct Found {
     pub store: u16,
 }
 
-// What one step gave, and whether it left nothing of the tree.
+// What one step gave, and whether it left nothing of the tree. An answer comes with either, and so does none: the two say all that there is.
 #[derive(Clone, Copy)]
 pub struct Stepped {
     pub answer: Option<Found>,
@@ -59,18 +54,14 @@ pub(crate) const FAILED: Stepped = Stepped {
     ended: true,
 };
 
-// What a box holds while no tree has it.
-pub const BLANK: Task = Task {
-    goal: 0,
-    frame: Frame {
-        count: 0,
-        variables: [0; 16],
-    },
-    n: 0,
-    store: 0,
-};
-
 impl Tree {
+    // What a box holds while no tree has it.
+    pub(crate) fn blank() -> Tree
+        ensures { boxes result ≡ 0 }
+    {
+        Tree::leaf(0, Row::new(0), 0, 0)
+    }
+
     // A leaf of these parts.
     pub(crate) fn leaf(goal: u16, frame: Frame, n: u16, store: u16) -> Tree
         ensures { result ≡ Leaf (record { goal = goal; frame = frame; n = n; store = store }) }
@@ -93,7 +84,7 @@ pub fn boxes_made(heap: Global) -> Result<Vec<Box<Tree>>, AllocError>
 {
     let mut pool = Vec::with_capacity(heap, BOXES)?;
     for _ in 0..BOXES {
-        pool.push_reserved(Box::new(heap, Tree::Leaf(BLANK))?);
+        pool.push_reserved(Box::new(heap, Tree::blank())?);
     }
     Ok(pool)
 }
@@ -165,11 +156,11 @@ pub fn clear<B: Bank>(bank: &mut B, pool: &mut Vec<Box<Tree>>, t: &mut Tree)
         Tree::Branch(a, b) => {
             clear(bank, pool, a);
             clear(bank, pool, b);
-            give_back(pool, mem::replace(t, Tree::Leaf(BLANK)));
+            give_back(pool, mem::replace(t, Tree::blank()));
         }
         Tree::Chain(a, _, _) => {
             clear(bank, pool, a);
-            give_back(pool, mem::replace(t, Tree::Leaf(BLANK)));
+            give_back(pool, mem::replace(t, Tree::blank()));
         }
     }
 }

@@ -4,7 +4,7 @@
 
 use arrange::{RECORDS, arrange_text};
 use records::Slot;
-use semitones::{Cell, Record, Semitones};
+use semitones::{Record, Semitones};
 use std::fs;
 use trees::{Store, Trees};
 
@@ -38,17 +38,14 @@ const BOOKS: [(&str, Over); 20] = [
     ("waits.book", Over::Semitones),
 ];
 
+// As the programs arrange_trees and arrange_semitones do it: a crate between them for these two lines would be longer.
 fn run_over_trees(rt: &HostRuntime, text: &[u8]) -> anyhow::Result<()> {
     let mut slots = [Slot::idle(Store::new()); RECORDS];
     arrange_text(rt, Trees::new(&mut slots), text)
 }
 
 fn run_over_semitones(rt: &HostRuntime, text: &[u8]) -> anyhow::Result<()> {
-    let blank = Record {
-        used: 0,
-        cells: [Cell { root: 0, by: 0 }; 257],
-    };
-    let mut slots = [Slot::idle(blank); RECORDS];
+    let mut slots = [Slot::idle(Record::new()); RECORDS];
     arrange_text(rt, Semitones::new(&mut slots), text)
 }
 

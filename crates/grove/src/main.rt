@@ -6,7 +6,7 @@ mod told;
 use bank::{Bank, Constraint, Effect, Refusal, Vars};
 use records::Slot;
 use told::{equal, number, pair, print_told};
-use trees::{Form, Store, Trees};
+use trees::{Cell, Form, Store, Trees};
 
 fn tell<B: Bank>(rt: &impl Print, bank: &mut B, store: u16, c: &Constraint) -> anyhow::Result<()> {
     let answer = bank.tell(store, c);
@@ -196,8 +196,10 @@ fn scenario<B: Bank>(rt: &impl Print, bank: &mut B) -> anyhow::Result<()> {
 fn main(rt: HostRuntime) -> anyhow::Result<()> {
     let mut stale = Store::new();
     stale.used = 200;
-    stale.roots[0] = 999;
-    stale.forms[0] = Form::Pair(0, 300);
+    stale.cells[0] = Cell {
+        root: 999,
+        form: Form::Pair(0, 300),
+    };
     let mut slot = Slot::idle(stale);
     slot.live = true;
     let mut slots = [slot; 3];

@@ -23,13 +23,14 @@
 use Rattle.std.specs.Prelude.{◌≡◌, ℕ, ◌+◌, Bool, cond, ◌&&◌, List, [], ◌∷◌, ◌++◌, length, drop, ℤ, Some, None, Ok, Err, codes, Option, Result, nat_le}
 use Rattle.std.specs.Str.{bytes_eq}
 use Rattle.numeral.specs.Reads.{as_number, as_signed}
+use Rattle.row.specs.declared.Row.{Row}
+use Rattle.row.specs.Items.{items}
 use Rattle.line.specs.declared.Fault.{Fault}
 use Rattle.line.specs.declared.Fault.TheVariants.{UnknownWord, FieldCount, BadNumber}
 use Rattle.line.specs.declared.Line.{Line}
-use Rattle.line.specs.declared.Slots.{Slots}
 use Rattle.line.specs.declared.Word.{Word}
 use Rattle.line.specs.declared.Word.TheVariants.{Rule, And, Or, New, Call, Tell}
-use Rattle.line.specs.Slots.{slots_of, says}
+use Rattle.line.specs.Says.{says}
 use Rattle.line.specs.Statements.{Statement, a_rule, a_tell, an_and, an_or, a_new, a_call, words, InRange}
 
 pub data Outcome : Type 0 where
@@ -40,8 +41,8 @@ abbrev pub answered : Result Line Fault → Outcome
 answered (Ok line) = said (says line)
 answered (Err fault) = wrong fault
 
-abbrev pub slotted : Result Slots Fault → Result (List ℕ) Fault
-slotted (Ok s) = Ok (slots_of s)
+abbrev pub slotted : {N : ℕ} → Result (Row ℕ N) Fault → Result (List ℕ) Fault
+slotted (Ok s) = Ok (items s)
 slotted (Err fault) = Err fault
 
 abbrev pub word_of : List ℕ → Option Word

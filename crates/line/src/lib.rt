@@ -5,27 +5,21 @@ pub mod read;
 pub mod words;
 
 pub use read::read_line;
-
-// Slots in use are the first `count` of the places.
-#[derive(Clone, Copy)]
-pub struct Slots {
-    pub count: u8,
-    pub places: [u8; 16],
-}
+pub use row::Row;
 
 // A constraint at some slots: at most three.
 #[derive(Clone, Copy)]
 pub struct Tell {
     pub code: u8,
     pub k: i16,
-    pub slots: Slots,
+    pub slots: Row<u8, 3>,
 }
 
 // A rule with the slots for its parameters: at most sixteen.
 #[derive(Clone, Copy)]
 pub struct Call {
     pub rule: u8,
-    pub slots: Slots,
+    pub slots: Row<u8, 16>,
 }
 
 #[derive(Clone, Copy)]

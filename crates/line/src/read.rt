@@ -2,12 +2,12 @@
 ghost use Rattle.std.specs.Prelude.{◌≡◌, ◌≤◌, true, [], length, IfOk, OnOk};
 ghost use Rattle.fields.specs.Cursor.{here};
 ghost use Rattle.line.specs.Moves.{Next, Stays};
-ghost use Rattle.line.specs.Slots.{slots_sized, sized};
 ghost use Rattle.line.specs.Reading.{answered, slotted, takes, number_of, signed_of, first_word, first_number, first_signed, as_slots, ruled, called, told, numbered, outcome, Exact};
 
-use super::{Call, Fault, Line, Slots, Tell, Word};
+use super::{Call, Fault, Line, Tell, Word};
 use fields::{Field, Fields};
 use numeral::{number, signed_number};
+use row::Row;
 
 // That `field` writes no number, or none in range.
 fn no_number(field: Field) -> Fault
@@ -26,17 +26,16 @@ fn number_of(field: Field, max: u32) -> Result<u32, Fault>
     number(field.bytes, max).ok_or(no_number(field))
 }
 
-// The next field, as a number from 0 to `max`.
+// The next field, as a number from 0 to `max`. This, `next_signed` and `next_word` are one shape, but as one function over a closure it would
+// have to pass on what the closure asks and gives, which is longer than their two lines.
 fn next_number(fields: &mut Fields, max: u32) -> Result<u32, Fault>
     ensures does { result ≡ first_number max fields.old.given (here fields.old) }
     ensures within { IfOk result (λ v. v ≤ max) }
     ensures next { OnOk result (Next fields.old fields.new) }
     ensures rest { Stays fields.old fields.new }
 {
-    match fields.next() {
-        Some(field) => number_of(field, max),
-        None => Err(Fault::FieldCount),
-    }
+    let field = fields.next().ok_or(Fault::FieldCount)?;
+    number_of(field, max)
 }
 
 // The number from `-max` to `max` that `field` writes.
@@ -44,10 +43,8 @@ fn signed_of(field: Field, max: u16) -> Result<i16, Fault>
     requires { max ≤ 32767 }
     ensures { result ≡ signed_of max field.entry.number field.entry.bytes.now }
 {
-    match signed_number(field.bytes, max) {
-        Some(k) => Ok(k as i16),
-        None => Err(no_number(field)),
-    }
+    let k = signed_number(field.bytes, max).ok_or(no_number(field))?;
+    Ok(k as i16)
 }
 
 // The next field, as a number from `-max` to `max`.
@@ -57,10 +54,8 @@ fn next_signed(fields: &mut Fields, max: u16) -> Result<i16, Fault>
     ensures next { OnOk result (Next fields.old fields.new) }
     ensures rest { Stays fields.old fields.new }
 {
-    match fields.next() {
-        Some(field) => signed_of(field, max),
-        None => Err(Fault::FieldCount),
-    }
+    let field = fields.next().ok_or(Fault::FieldCount)?;
+    signed_of(field, max)
 }
 
 // The slot that `field` names.
@@ -72,19 +67,14 @@ fn slot_of(field: Field) -> Result<u8, Fault>
 }
 
 // All that is left of the line, as slots.
-fn next_slots(fields: &mut Fields) -> Result<Slots, Fault>
-    requires { length (here fields.old) ≤ 16 }
+fn next_slots<const N: usize>(fields: &mut Fields) -> Result<Row<u8, N>, Fault>
+    requires { length (here fields.old) ≤ N }
     ensures does { slotted result ≡ as_slots fields.old.given [] (here fields.old) }
-    ensures sized { IfOk result (λ s. slots_sized s ≡ true) }
     ensures rest { Stays fields.old fields.new }
 {
-    let mut slots = Slots {
-        count: 0,
-        places: [0; 16],
-    };
+    let mut slots = Row::new(0);
     while let Some(field) = fields.next() {
-        slots.places[slots.count as usize] = slot_of(field)?;
-        slots.count += 1;
+        slots.push(slot_of(field)?);
     }
     Ok(slots)
 }
@@ -104,7 +94,6 @@ fn rule_line(fields: &mut Fields) -> Result<Line, Fault>
 fn call_line(fields: &mut Fields) -> Result<Line, Fault>
     requires { length (here fields.old) ≤ 17 }
     ensures does { answered result ≡ called fields.old.given (here fields.old) }
-    ensures sized { IfOk result (λ line. sized line ≡ true) }
     ensures rest { Stays fields.old fields.new }
 {
     let rule = next_number(fields, 63)? as u8;
@@ -116,7 +105,6 @@ fn call_line(fields: &mut Fields) -> Result<Line, Fault>
 fn tell_line(fields: &mut Fields) -> Result<Line, Fault>
     requires { length (here fields.old) ≤ 5 }
     ensures does { answered result ≡ told fields.old.given (here fields.old) }
-    ensures sized { IfOk result (λ line. sized line ≡ true) }
     ensures rest { Stays fields.old fields.new }
 {
     let code = next_number(fields, 255)? as u8;
@@ -129,7 +117,6 @@ fn tell_line(fields: &mut Fields) -> Result<Line, Fault>
 fn numbers_behind(word: Word, fields: &mut Fields) -> Result<Line, Fault>
     requires { takes word (length (here fields.old)) ≡ true }
     ensures does { answered result ≡ numbered word fields.old.given (here fields.old) }
-    ensures sized { IfOk result (λ line. sized line ≡ true) }
     ensures rest { Stays fields.old fields.new }
 {
     match word {
@@ -148,18 +135,14 @@ fn next_word(fields: &mut Fields) -> Result<Word, Fault>
     ensures next { OnOk result (Next fields.old fields.new) }
     ensures rest { Stays fields.old fields.new }
 {
-    match fields.next() {
-        Some(field) => Word::of(field.bytes).ok_or(Fault::UnknownWord),
-        None => Err(Fault::UnknownWord),
-    }
+    let field = fields.next().ok_or(Fault::UnknownWord)?;
+    Word::try_from(field.bytes)
 }
 
 // The line whose fields `fields` has before it.
 pub fn read_line(fields: &mut Fields) -> Result<Line, Fault>
     ensures does { answered result ≡ outcome fields.old.given (here fields.old) }
     ensures exact { Exact (here fields.old) (answered result) }
-    // A reader of the slots in use finds each at its place.
-    ensures sized { IfOk result (λ line. sized line ≡ true) }
     // The cursor stays in its line.
     ensures rest { Stays fields.old fields.new }
 {

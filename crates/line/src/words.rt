@@ -1,39 +1,30 @@
 // The six words, and how many fields each takes.
 ghost use Rattle.std.specs.Prelude.{◌≡◌};
-ghost use Rattle.std.specs.Str.{bytes_eq};
-ghost use Rattle.line.specs.Reading.{word_of, least, most, takes};
+ghost use Rattle.line.specs.Reading.{unless, word_of, least, most, takes};
+ghost use Rattle.line.specs.declared.Fault.TheVariants.{UnknownWord};
 
-use super::Word;
+use super::{Fault, Word};
 
-// `field` is `word`, byte for byte.
-fn same(field: &[u8], word: &[u8]) -> bool
-    ensures { result ≡ bytes_eq field.now word.now }
-{
-    field == word
+impl TryFrom<&[u8]> for Word {
+    type Error = Fault;
+
+    ghost try_from_gives = { λ field r. r ≡ unless UnknownWord (word_of field.now) };
+
+    // The word that `field` is, byte for byte.
+    fn try_from(field: &[u8]) -> Result<Word, Fault> {
+        match field {
+            b"rule" => Ok(Word::Rule),
+            b"and" => Ok(Word::And),
+            b"or" => Ok(Word::Or),
+            b"new" => Ok(Word::New),
+            b"call" => Ok(Word::Call),
+            b"tell" => Ok(Word::Tell),
+            _ => Err(Fault::UnknownWord),
+        }
+    }
 }
 
 impl Word {
-    // The word that `field` is.
-    pub fn of(field: &[u8]) -> Option<Word>
-        ensures { result ≡ word_of field.now }
-    {
-        if same(field, b"rule") {
-            Some(Word::Rule)
-        } else if same(field, b"and") {
-            Some(Word::And)
-        } else if same(field, b"or") {
-            Some(Word::Or)
-        } else if same(field, b"new") {
-            Some(Word::New)
-        } else if same(field, b"call") {
-            Some(Word::Call)
-        } else if same(field, b"tell") {
-            Some(Word::Tell)
-        } else {
-            None
-        }
-    }
-
     // How few fields may stand behind the word.
     fn least(self) -> usize
         ensures { result ≡ least self }

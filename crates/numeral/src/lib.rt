@@ -9,21 +9,18 @@ ghost use Rattle.numeral.specs.Steps.{leads as led, appended as appends, negated
 fn leads(field: &[u8]) -> bool
     ensures { result ≡ led field.now }
 {
-    field.len() > 0 && !(field[0] == b'0' && field.len() > 1)
+    !matches!(field, [] | [b'0', _, ..])
 }
 
 // `value` with one more digit behind it, if that is no more than `max`.
 fn appended(value: u32, digit: u8, max: u32) -> Option<u32>
     ensures { result ≡ appends max value digit }
 {
-    if !digit.is_ascii_digit() {
-        return None;
-    }
-    let next = value as u64 * 10 + (digit - b'0') as u64;
-    if next > max as u64 {
-        return None;
-    }
-    Some(next as u32)
+    let digit = char::from(digit).to_digit(10)?;
+    value
+        .checked_mul(10)?
+        .checked_add(digit)
+        .filter(|n| *n <= max)
 }
 
 // The number that `field` writes, if it is no more than `max`.
@@ -58,9 +55,8 @@ pub fn signed_number(field: &[u8], max: u16) -> Option<i32>
     ensures value { result ≡ as_signed max field.now }
     ensures reads { ReadsSigned max field.now result }
 {
-    if field.len() > 0 && field[0] == b'-' {
-        return negative(number(&field[1..], max as u32)?);
+    match field {
+        [b'-', size @ ..] => number(size, u32::from(max)).and_then(negative),
+        _ => number(field, u32::from(max)).map(|size| size as i32),
     }
-    let size = number(field, max as u32)?;
-    Some(size as i32)
 }

@@ -1,5 +1,6 @@
 // Texts at the limits, made when they are asked for.
 use std::alloc::{AllocError, Global};
+use std::fmt;
 
 // What is at a limit, or one past it.
 #[derive(Clone, Copy)]
@@ -23,6 +24,22 @@ fn repeat(text: &mut Vec<u8>, piece: &[u8], count: usize) -> Result<(), AllocErr
     Ok(())
 }
 
+impl fmt::Display for Shape {
+    fn fmt<W: fmt::Write>(&self, f: &mut fmt::Formatter<W>) -> fmt::Result {
+        f.write_str(match self {
+            Shape::Rules64 => "64 rules",
+            Shape::Rules65 => "65 rules",
+            Shape::Goals1024 => "1024 goals",
+            Shape::Goals1025 => "1025 goals",
+            Shape::Ands1024 => "1024 open goals",
+            Shape::News16 => "16 slots",
+            Shape::News17 => "17 slots",
+            Shape::Bytes65536 => "65536 bytes",
+            Shape::Bytes65537 => "65537 bytes",
+        })
+    }
+}
+
 impl Shape {
     pub const ALL: [Shape; 9] = [
         Shape::Rules64,
@@ -35,20 +52,6 @@ impl Shape {
         Shape::Bytes65536,
         Shape::Bytes65537,
     ];
-
-    pub fn name(self) -> &'static str {
-        match self {
-            Shape::Rules64 => "64 rules",
-            Shape::Rules65 => "65 rules",
-            Shape::Goals1024 => "1024 goals",
-            Shape::Goals1025 => "1025 goals",
-            Shape::Ands1024 => "1024 open goals",
-            Shape::News16 => "16 slots",
-            Shape::News17 => "17 slots",
-            Shape::Bytes65536 => "65536 bytes",
-            Shape::Bytes65537 => "65537 bytes",
-        }
-    }
 
     pub fn text(self, heap: Global) -> Result<Vec<u8>, AllocError> {
         let mut text = Vec::new(heap);

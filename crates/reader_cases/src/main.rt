@@ -7,9 +7,10 @@ mod small;
 use book::{Book, Form};
 use large::Shape;
 use small::CASES;
+use std::fmt::Display;
 
 // The answer to a text, in one line.
-fn print_answer(rt: &impl Print, name: &str, text: &[u8]) -> anyhow::Result<()> {
+fn print_answer(rt: &impl Print, name: impl Display + Drop, text: &[u8]) -> anyhow::Result<()> {
     let mut book = Book::empty();
     match book.read(text) {
         Ok(()) => {
@@ -18,11 +19,8 @@ fn print_answer(rt: &impl Print, name: &str, text: &[u8]) -> anyhow::Result<()> 
             println!(rt; "{name}: book,{rules},{goals}")?;
         }
         Err(refusal) => {
-            let number = refusal.cause.number();
-            let line = refusal.line;
-            let field = refusal.field;
             let left = book.rule_count() + book.goal_count();
-            println!(rt; "{name}: refused,{number},{line},{field} left {left}")?;
+            println!(rt; "{name}: {refusal} left {left}")?;
         }
     }
     Ok(())
@@ -35,11 +33,12 @@ fn walk(book: &Book, r: usize) -> u8 {
     }
     let root = book.rule(r).goal;
     match book.form(root) {
-        Form::Tell(tell) => if tell.slots.count > 0 {
-            tell.slots.places[0]
-        } else {
-            book.scope(root)
-        },
+        Form::Tell(tell) => tell
+            .slots
+            .as_slice()
+            .first()
+            .copied()
+            .unwrap_or(book.scope(root)),
         Form::And { first, second } => book.scope(first).max(book.scope(second)),
         Form::Or { first, second } => match book.form(second) {
             Form::New { goal } => book.scope(goal),
@@ -73,7 +72,7 @@ fn main(rt: HostRuntime) -> anyhow::Result<()> {
     }
     for shape in Shape::ALL {
         let text = shape.text(rt.alloc())?;
-        print_answer(&rt, shape.name(), &text)?;
+        print_answer(&rt, shape, &text)?;
     }
     print_walk(
         &rt,

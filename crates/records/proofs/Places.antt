@@ -1,9 +1,9 @@
 -- What stands at a place, also after a write to one slot. Assumes nothing.
-use Rattle.std.proofs.Common.{◌≡◌, ℕ, ◌<◌, ◌≤◌, true, false, List, map, length, get_or, set, sym, refl, ap, ◌∙◌, subst, ⊎_elim, arith, length-set}
-use Rattle.std.proofs.lemmas.List.{length-map, get_or-map, map-set, get_or_past, get_or-set_same, get_or-set_other, set-set, set_past, same_lists, get_or_default}
+use Rattle.std.proofs.Common.{◌≡◌, ℕ, ◌<◌, ◌≤◌, true, false, List, map, length, get_or, set, sym, refl, ap, ◌∙◌, subst, ⊎_elim, length-set}
+use Rattle.std.proofs.lemmas.List.{length-map, get_or-map, map-set, get_or_past, get_or-set_same, get_or-set_other, set-set, set_past, get_or_default}
 use Rattle.std.proofs.lemmas.Bool.{cases_lt, cases_eq, false≢true}
 use Rattle.records.specs.declared.slots.Slot.{Slot}
-use Rattle.records.specs.Slots.{live_at, noted, Keeps, Written, SameRecords, Elsewhere}
+use Rattle.records.specs.Slots.{live_at, noted, Keeps, Written, SameRecords}
 
 -- what is seen of the slot at a place
 module _ {R A : Type 0} (f : Slot R → A) (none : A) (slots : List (Slot R)) (i : ℕ) where
@@ -66,18 +66,6 @@ module _ {R : Type 0} (slots : List (Slot R)) (i : ℕ) where
 
 pub keeps_none : {R : Type 0} (P : R → Type 0) (slots : List (Slot R)) → ((i : ℕ) → live_at slots i ≡ false) → Keeps P slots
 keeps_none P slots none i past e = absurd (false≢true (sym (none i) ∙ e))
-
--- slots that differ at one place at most are those with one slot written
-pub as_set : {R : Type 0} (at : ℕ) (slots after : List (Slot R)) → Elsewhere at slots after → (past : Slot R) → at < length slots → after ≡ set slots at (get_or after at past)
-as_set at slots after E past l =
-    same_lists after (set slots at (get_or after at past)) (E.long ∙ sym (length-set slots at (get_or after at past)))
-    (λ k d h. ⊎_elim
-    (λ (q : k ≡ at). ap (λ n. get_or after n d) q ∙ default d ∙ sym (get_or-set_same slots at (get_or after at past) d l) ∙ ap (λ n. get_or (set slots at (get_or after at past)) n d) (sym q))
-    (λ ne. E.same k d ne ∙ sym (get_or-set_other slots at k (get_or after at past) d ne))
-    (cases_eq k at))
-  where
-    default : (d : Slot _) → get_or after at d ≡ get_or after at past
-    default d = get_or_default after at d past (omega (arith, E.long))
 
 -- one slot is changed in place
 pub written : {R : Type 0} (at : ℕ) (change : Slot R → Slot R) (slots : List (Slot R)) (old new : Slot R) → at < length slots → new ≡ change (get_or slots at old) → Written at change slots (set slots at new)

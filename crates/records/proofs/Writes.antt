@@ -22,21 +22,6 @@ kept_all K v m s c was formed within has some = record {
   all = λ σ. refl;
 }
 
--- a store that was just added is given other solutions
-pub added_changed :
-    (m n k : Meaning) (s : ℕ) (f g : Solutions) → Added m n s f → k.live s ≡ true → ((σ : Assignment) → k.solutions s σ ≡ g σ) → Others n k s → k.spare ≡ n.spare
-    → Added m k s g
-added_changed m n k s f g A is has O spare = record {
-  was = A.was;
-  is = is;
-  has = has;
-  others = record {
-    live = λ t ne. O.live t ne ∙ A.others.live t ne;
-    solutions = λ t ne l σ. O.solutions t ne (A.others.live t ne ∙ l) σ ∙ A.others.solutions t ne l σ;
-  };
-  spare = ap (λ (i : ℕ). i + 1) spare ∙ A.spare;
-}
-
 module _ {R : Type 0} (solutions : R → Solutions) (text : R → ℕ → List ℕ) (slots : List (Slot R)) (i : ℕ) (y : Slot R) (l : i < length slots) where
   pub has_here : (q : ℕ) (σ : Assignment) → (means solutions text (set slots i y) q).solutions i σ ≡ solutions y.record σ
   has_here q σ = ap (λ f. f σ) (noted_here slots i y (λ σ. false) solutions l)

@@ -1,7 +1,11 @@
-// A place for one store.
-ghost use Rattle.std.specs.Prelude.{◌≡◌, false};
+// A place for one store, and what is done to a row of them.
+ghost use Rattle.std.specs.Prelude.{◌≡◌, ℕ, ◌<◌, ◌≤◌, false, length, count_by, ◌≢◌, slice_index_or};
+ghost use Rattle.records.specs.Slots.{idle, live_at, SameRecords, Copied};
 
-// Whether a store stands there, and its record. Where none does, the record means nothing.
+use crate::stored::Stored;
+
+// Whether a store stands there, and its record. Where none does, the record means nothing. The flag stands beside the record, and not
+// around it as an `Option`, since a store begins in the record that is there: only the part in use is written.
 #[derive(Clone, Copy)]
 pub struct Slot<R> {
     pub live: bool,
@@ -18,5 +22,44 @@ impl<R> Slot<R> {
             live: false,
             record,
         }
+    }
+}
+
+// Ends every store, and answers how many slots there are to spare.
+pub fn idle_all<R: Copy>(slots: &mut [Slot<R>]) -> u16
+    requires { length slots.old ≤ 1024 }
+    ensures none { (i : ℕ) → live_at slots.new i ≡ false }
+    ensures counted { result ≡ count_by idle slots.new }
+    ensures all { result ≡ length slots.old }
+    ensures same { SameRecords slots.old slots.new }
+{
+    // By index: after a loop over `iter_mut` a proof knows the length alone.
+    for i in 0..slots.len() {
+        slots[i].live = false;
+    }
+    slots.len() as u16
+}
+
+// Whether a number is that of a store.
+pub fn is_live<R: Copy>(slots: &[Slot<R>], store: u16) -> bool
+    ensures { result ≡ live_at slots.now store }
+{
+    slots.get(store as usize).is_some_and(|slot| slot.live)
+}
+
+// Gives a slot a record like another's.
+pub fn copy<R: Stored>(slots: &mut [Slot<R>], from: usize, to: usize)
+    requires source { from < length slots.old }
+    requires target { to < length slots.old }
+    requires apart { from ≢ to }
+    requires sound { (past : _) → ∥ R.sound (slice_index_or slots.old from past).record ∥₁ }
+    ensures { Copied R.alike R.sound R.solutions from to slots.old slots.new }
+{
+    if from < to {
+        let (front, back) = slots.split_at_mut(to);
+        back[0].record.copy_from(&front[from].record);
+    } else {
+        let (front, back) = slots.split_at_mut(from);
+        front[to].record.copy_from(&back[0].record);
     }
 }

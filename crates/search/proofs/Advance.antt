@@ -1,5 +1,5 @@
 -- One step of a search, from one step of its tree. Assumes nothing.
-use Rattle.std.proofs.Common.{◌≡◌, ℕ, ◌+◌, ◌<◌, ◌≤◌, Bool, true, false, List, length, Some, None, vec_len, vec_capacity, Option, Vec, Box, sym, refl, ap, ◌∙◌, subst, inl, inr, add-one, arith}
+use Rattle.std.proofs.Common.{◌≡◌, ℕ, ◌+◌, ◌<◌, ◌≤◌, Bool, true, false, cond, is_none, List, length, Some, None, vec_len, vec_capacity, Option, Vec, Box, sym, refl, ap, ◌∙◌, subst, inl, inr, add-one, arith}
 use Rattle.std.proofs.lemmas.Bool.{both_ways, false≢true}
 use Rattle.std.specs.declared.alloc.Global.{Global}
 use Rattle.frontier.specs.declared.tree.Tree.{Tree}
@@ -17,14 +17,27 @@ use Rattle.machine.specs.Machine.{step_tell_lem, step_fail, step_conj, step_disj
 use Rattle.bank.specs.Views.{Meaning, View}
 use Rattle.frontier.specs.Trees.{boxes, next_goal_lem, In, Stands, Left, Given, Holds, held, Among, standing, AllApart}
 use Rattle.frontier.specs.Steps.{Ready, Went, Stops, Stayed, Next, adds, AtFresh, AtOr}
-use Rattle.search.specs.Calls.{Mine, WaitsAs, StandsFor, Good, NoneLeft, SteppedTo, OneMore, NoMore, Barred, below, nodes}
+use Rattle.search.specs.Parts.{tree_of}
+use Rattle.search.specs.Calls.{Mine, WaitsAs, StandsFor, Good, SteppedTo, OneMore, NoMore, Barred, below, nodes}
 use Rattle.frontier.proofs.Scopes.{run_fine}
+use Rattle.search.proofs.Along.{Called}
 
 -- A state that is going on.
 pub record Going {S : Type 0} (v : View S) (s : Search S) (rules : Rules) (T : State) : Type 0 where
   pub here : MachineTree
   pub is : T ≡ Some here
   pub ready : Ready v.kind v.variables s.book rules (v.meaning s.bank) s.tree here
+
+-- A step may be made.
+abbrev pub MayStep : {S : Type 0} → Search S → Type 0
+MayStep s = (s.posed ≡ true) × (s.over ≡ false) × (s.waiting ≡ None)
+
+pub may_step : {S : Type 0} {s t : Search S} → s ≡ t → t.posed ≡ true → t.over ≡ false → t.waiting ≡ None → MayStep s
+may_step e p o w = subst MayStep (sym e) (p, o, w)
+
+-- A step is made.
+abbrev pub Onward : {S : Type 0} → View S → Search S → Search S → Type 0
+Onward v s t = Called v s t (OneMore v s t)
 
 module _ {S : Type 0} (v : View S) where
   pub going :
@@ -47,16 +60,16 @@ module _ {S : Type 0} (v : View S) where
   waits_noted m (Some y) None n es h = absurd h
   waits_noted m (Some y) (Some a) n es h = record { before = es; last = a; place = refl; stands = h }
 
-  abbrev after : Search S → S → Tree → Vec (Box Tree Global) Global → Option Found → Bool → Search S
+  abbrev pub after : Search S → S → Tree → Vec (Box Tree Global) Global → Option Found → Bool → Search S
   after s b t p x d = record { bank = b; book = s.book; params = s.params; tree = t; pool = p; waiting = x; posed = s.posed; over = d; steps = s.steps + 1; stock = s.stock }
 
-  pub one_more :
+  one_more :
       (s : Search S) (b : S) (t : Tree) (p : Vec (Box Tree Global) Global) (x : Option Found) (d : Bool)
-      → Good v s → s.posed ≡ true → s.over ≡ false → s.waiting ≡ None
+      → Good v s → MayStep s
       → ((rules : Rules) (A : MachineTree) → Ready v.kind v.variables s.book rules (v.meaning s.bank) s.tree A → Went v.kind v.variables s.book rules (v.meaning s.bank) (v.meaning b) s.tree t A x d)
       → vec_len p + boxes t ≡ vec_len s.pool + boxes s.tree → vec_capacity p ≡ vec_capacity s.pool → (d ≡ true → boxes t ≡ 0)
-      → OneMore v s (after s b t p x d)
-  one_more s b t p x d g posed o w went len cap flat =
+      → Onward v s (after s b t p x d)
+  one_more s b t p x d g (posed, o, w) went len cap flat =
       let on : (rules : Rules) (rule : Rule) (T : State) (es : List Entry) → StandsFor v s rules rule T es → SteppedTo v (after s b t p x d) rules rule es =
       λ rules rule T es sf. to rules rule T es sf (going s g o rules rule T es sf) in
       let q = g.going posed in
@@ -76,16 +89,25 @@ module _ {S : Type 0} (v : View S) where
           going = λ _. (q.0, q.1, n.state, noted q.3 (s.steps + 1) n.given, n.stands);
           idle = λ e. absurd (false≢true (sym e ∙ posed));
         };
-        is_posed = posed;
-        steps = refl;
-        book = refl;
-        stock = refl;
-        others = record {
-          live = λ z i h. a.others.live z (λ y. i (mine z y)) h;
-          solutions = λ z i h σ. a.others.solutions z (λ y. i (mine z y)) h σ;
-          theirs = λ z i h y. elim (a.mine z y) [ inl j ↦ i (mine z j) | inr j ↦ both_ways ((v.meaning s.bank).live z) j h ];
+        does = record {
+          is_posed = posed;
+          steps = refl;
+          book = refl;
+          stock = refl;
+          others = record {
+            live = λ z i h. a.others.live z (λ y. i (mine z y)) h;
+            solutions = λ z i h σ. a.others.solutions z (λ y. i (mine z y)) h σ;
+            theirs = λ z i h y. elim (a.mine z y) [ inl j ↦ i (mine z j) | inr j ↦ both_ways ((v.meaning s.bank).live z) j h ];
+          };
+          stands = on;
         };
-        stands = on;
+        none_left = record {
+          gone = λ z no h. a.gone z no (elim h [
+            | inl (inl i) ↦ inl (subst (λ (d : Bool). Among d s.tree z) o i)
+            | inl (inr i) ↦ absurd (subst (λ (y : Option Found). Holds y z) w i)
+            | inr i ↦ inr i
+          ]);
+        };
       }
     where
       to : (rules : Rules) (rule : Rule) (T : State) (es : List Entry) → StandsFor v s rules rule T es → Going v s rules T → SteppedTo v (after s b t p x d) rules rule es
@@ -106,23 +128,51 @@ module _ {S : Type 0} (v : View S) where
             answer = c.answer;
           }
 
-  -- what the step let go has ended
-  pub none_left :
-      (s : Search S) (b : S) (t : Tree) (p : Vec (Box Tree Global) Global) (x : Option Found) (d : Bool)
-      → Good v s → s.posed ≡ true → s.over ≡ false → s.waiting ≡ None
-      → ((rules : Rules) (A : MachineTree) → Ready v.kind v.variables s.book rules (v.meaning s.bank) s.tree A → Went v.kind v.variables s.book rules (v.meaning s.bank) (v.meaning b) s.tree t A x d)
-      → NoneLeft v s (after s b t p x d)
-  none_left s b t p x d g posed o w went =
-      let q = g.going posed in
-      let k = going s g o q.0 q.1 q.2 q.3 q.4 in
-      let a = went q.0 k.here k.ready in
-      record {
-        gone = λ z no h. a.gone z no (elim h [
-          | inl (inl i) ↦ inl (subst (λ (d : Bool). Among d s.tree z) o i)
-          | inl (inr i) ↦ absurd (subst (λ (y : Option Found). Holds y z) w i)
-          | inr i ↦ inr i
-        ]);
-      }
+-- a tree that has ended goes
+module _ (K : Kind) (V : ℕ) (book : Book) (rules : Rules) (m n : Meaning) (t u : Tree) (A : MachineTree) (x : Option Found) where
+  went_left : (d : Bool) → Went K V book rules m n t u A x d → Went K V book rules m n t (tree_of (cond d None (Some u))) A x (is_none (cond d None (Some u)))
+  went_left false h = h
+  went_left true h = record {
+    given = h.given;
+    rest = h.rest;
+    step = h.step;
+    left = nothing h.rest h.left;
+    answer = h.answer;
+    mine = h.mine;
+    gone = h.gone;
+    others = h.others;
+    apart = tt;
+    parted = h.parted;
+    spare = h.spare;
+  }
+    where
+      nothing : (S : State) → Left K V book n true u S → Left K V book n true (tree_of None) S
+      nothing None l = tt
+      nothing (Some T) l = absurd l
+
+boxes_left : (d : Bool) (u : Tree) → (d ≡ true → boxes u ≡ 0) → boxes (tree_of (cond d None (Some u))) ≡ boxes u
+boxes_left true u h = sym (h refl)
+boxes_left false u h = refl
+
+flat_left : (d : Bool) (u : Tree) → is_none (cond d None (Some u)) ≡ true → boxes (tree_of (cond d None (Some u))) ≡ 0
+flat_left true u h = refl
+flat_left false u h = absurd (false≢true h)
+
+pub stepped :
+    {S : Type 0} (v : View S) (s : Search S) (b : S) (now t : Tree) (p : Vec (Box Tree Global) Global) (x : Option Found) (d : Bool) (w : Option Tree)
+    → Good v s → MayStep s → now ≡ s.tree → w ≡ cond d None (Some t)
+    → ((rules : Rules) (A : MachineTree) → Ready v.kind v.variables s.book rules (v.meaning s.bank) now A → Went v.kind v.variables s.book rules (v.meaning s.bank) (v.meaning b) now t A x d)
+    → vec_len p + boxes t ≡ vec_len s.pool + boxes now → vec_capacity p ≡ vec_capacity s.pool → (d ≡ true → boxes t ≡ 0)
+    → Onward v s (after v s b (tree_of w) p x (is_none w))
+stepped v s b now t p x d w g may e is went len cap flat =
+    let K = v.kind in
+    let V = v.variables in
+    let m = v.meaning s.bank in
+    subst (λ (w : Option Tree). Onward v s (after v s b (tree_of w) p x (is_none w))) (sym is)
+    (one_more v s b _ p x _ g may
+    (λ rules A r. subst (λ (y : Tree). Went K V s.book rules m (v.meaning b) y (tree_of (cond d None (Some t))) A x (is_none (cond d None (Some t)))) e
+    (went_left K V s.book rules m (v.meaning b) now t A x d (went rules A (subst (λ (y : Tree). Ready K V s.book rules m y A) (sym e) r))))
+    (omega (arith, len, boxes_left d t flat, ap boxes e)) cap (flat_left d t))
 
 -- a step that adds nodes gives no answer, and how many nodes it leaves
 crowd :
@@ -210,7 +260,7 @@ same_nodes K V book m (Chain' p a h e) (leaf g f n told ch) s = absurd s
 same_nodes K V book m (Chain' p a h e) (branch A B) s = absurd s
 same_nodes K V book m (Chain' p a h e) (chain A g f) s = let i = same_nodes K V book m a A s.0 in omega (arith, i)
 
-module _ {S : Type 0} (v : View S) (s : Search S) (g : Good v s) (o : s.over ≡ false) (w : s.waiting ≡ None) where
+module _ {S : Type 0} (v : View S) (s : Search S) (g : Good v s) (may : MayStep s) where
   barred_of : (rules : Rules) (A : MachineTree) (e : Stop) → Ready v.kind v.variables s.book rules (v.meaning s.bank) s.tree A
       → Stops v.variables (v.meaning s.bank) (vec_len s.pool) A e → Barred v s rules A e
   barred_of rules A Nodes r h = λ x T st.
@@ -233,37 +283,37 @@ module _ {S : Type 0} (v : View S) (s : Search S) (g : Good v s) (o : s.over ≡
             omega (arith, c.1, n, g.pool);
         not_new = next_clash v.variables A at_or;
         at_or = at_or;
-        all_held = omega (arith, g.spare, h.1, ap held w);
+        all_held = omega (arith, g.spare, h.1, ap held may.2);
         cause = h.2;
       }
 
   pub no_more :
-      (b : S) (t : Tree) (p : Vec (Box Tree Global) Global) (e : Stop)
-      → Stayed (v.meaning s.bank) (v.meaning b) s.tree t
-      → ((rules : Rules) (A : MachineTree) → Ready v.kind v.variables s.book rules (v.meaning s.bank) s.tree A → Stops v.variables (v.meaning s.bank) (vec_len s.pool) A e)
-      → vec_len p + boxes t ≡ vec_len s.pool + boxes s.tree → vec_capacity p ≡ vec_capacity s.pool
-      → NoMore v s (record { bank = b; book = s.book; params = s.params; tree = t; pool = p; waiting = s.waiting; posed = s.posed; over = s.over; steps = s.steps; stock = s.stock }) e
-  no_more b t p e st stops len cap = record {
+      (b : S) (now t : Tree) (p : Vec (Box Tree Global) Global) (e : Stop)
+      → now ≡ s.tree → Stayed (v.meaning s.bank) (v.meaning b) now t
+      → ((rules : Rules) (A : MachineTree) → Ready v.kind v.variables s.book rules (v.meaning s.bank) now A → Stops v.variables (v.meaning s.bank) (vec_len s.pool) A e)
+      → vec_len p + boxes t ≡ vec_len s.pool + boxes now → vec_capacity p ≡ vec_capacity s.pool
+      → NoMore v s (record { bank = b; book = s.book; params = s.params; tree = t; pool = p; waiting = s.waiting; posed = s.posed; over = false; steps = s.steps; stock = s.stock }) e
+  no_more b now t p e is st stops len cap = record {
     same = record {
       bank = st.bank;
       book = refl;
       params = refl;
-      tree = st.tree;
+      tree = st.tree ∙ is;
       waiting = refl;
       posed = refl;
-      over = refl;
+      over = sym may.1;
       steps = refl;
       stock = refl;
       spare_boxes = omega (arith, len, ap boxes st.tree);
       room = cap;
     };
     barred = λ rules rule T es sf.
-        let k = going v s g o rules rule T es sf in
-        (k.here, k.is, barred_of rules k.here e k.ready (stops rules k.here k.ready));
+        let k = going v s g may.1 rules rule T es sf in
+        (k.here, k.is, barred_of rules k.here e k.ready (stops rules k.here (subst (λ (y : Tree). Ready v.kind v.variables s.book rules (v.meaning s.bank) y k.here) (sym is) k.ready)));
   }
 
-  pub step_ready : s.posed ≡ true → (rules : Rules) × ((A : MachineTree) × Ready v.kind v.variables s.book rules (v.meaning s.bank) s.tree A)
-  step_ready posed = let q = g.going posed in let k = going v s g o q.0 q.1 q.2 q.3 q.4 in (q.0, (k.here, k.ready))
+  pub step_ready : (rules : Rules) × ((A : MachineTree) × Ready v.kind v.variables s.book rules (v.meaning s.bank) s.tree A)
+  step_ready = let q = g.going may.0 in let k = going v s g may.1 q.0 q.1 q.2 q.3 q.4 in (q.0, (k.here, k.ready))
 
 -- the goal of the next step is one of the book's
 next_inside : (K : Kind) (V : ℕ) (book : Book) (m : Meaning) (t : Tree) (T : MachineTree) → Stands K V book m t T → next_goal_lem t < length (book_nodes book)

@@ -31,7 +31,6 @@ pub record Along {S : Type 0} (v : View S) (s t : Search S) (k b : ℕ) : Type 0
   pub was_posed : s.posed ≡ true
   pub none_waited : s.waiting ≡ None
   pub near : s.steps + b < 2 ^ 32
-  pub good : Good v t
   pub is_posed : t.posed ≡ true
   pub steps : t.steps ≡ s.steps + k
   pub few : k ≤ b
@@ -40,6 +39,12 @@ pub record Along {S : Type 0} (v : View S) (s t : Search S) (k b : ℕ) : Type 0
   pub others : Untouched v s t
   pub none_left : NoneLeft v s t
   pub stands : (rules : Rules) (rule : Rule) (T : State) (es : List Entry) → StandsFor v s rules rule T es → Gone v t rules rule es k
+
+-- What a call leaves: a search, of which it promises D, and no store but the search's.
+pub record Called {S : Type 0} (v : View S) (s t : Search S) (D : Type 0) : Type 0 where
+  pub good : Good v t
+  pub does : D
+  pub none_left : NoneLeft v s t
 
 pub untouched_same : {S : Type 0} (v : View S) (s : Search S) → Untouched v s s
 untouched_same v s = record { live = λ x n h. h; solutions = λ x n h σ. refl; theirs = λ x n h m. n m }
@@ -62,12 +67,11 @@ none_left_on v s t u a b = record {
   ];
 }
 
-pub begins : {S : Type 0} (v : View S) (s : Search S) (b : ℕ) → Good v s → s.posed ≡ true → s.waiting ≡ None → s.steps + b < 2 ^ 32 → Along v s s 0 b
-begins v s b g p w n = record {
+pub begins : {S : Type 0} (v : View S) (s : Search S) (b : ℕ) → s.posed ≡ true → s.waiting ≡ None → s.steps + b < 2 ^ 32 → Along v s s 0 b
+begins v s b p w n = record {
   was_posed = p;
   none_waited = w;
   near = n;
-  good = g;
   is_posed = p;
   steps = omega arith;
   few = omega arith;

@@ -1,5 +1,5 @@
 -- Posing a rule, and taking an answer. Assumes nothing.
-use Rattle.std.proofs.Common.{◌≡◌, ℕ, ◌+◌, ◌<◌, ◌≤◌, Bool, true, false, List, [], length, Some, None, Err, vec_len, vec_capacity, Option, Vec, Box, sym, refl, ap, ◌∙◌, subst, inl, inr, arith}
+use Rattle.std.proofs.Common.{◌≡◌, ℕ, ◌+◌, ◌<◌, ◌≤◌, Bool, true, false, List, [], length, Some, None, Err, vec_len, vec_capacity, Option, Vec, Box, is_none, is_some, sym, refl, ap, ◌∙◌, subst, inl, inr, arith}
 use mathlib.Core.Bool.{and-true}
 use Rattle.std.proofs.lemmas.Bool.{both_ways, cases_Bool, false≢true}
 use Rattle.std.specs.declared.alloc.Global.{Global}
@@ -20,15 +20,17 @@ use Rattle.machine.proofs.Rules.{own_rules_fit_lem}
 use Rattle.search.specs.declared.Search.{Search}
 use Rattle.search.specs.declared.refusal.Refusal.TheVariants.{NoStock}
 use Rattle.frontier.specs.declared.tree.Found.{Found}
-use Rattle.frontier.specs.declared.tree.Frame.{Frame as FrameOf}
+use Rattle.row.specs.declared.Row.{Row}
 use Rattle.frontier.specs.declared.tree.Tree.{Tree}
 use Rattle.frontier.specs.declared.tree.Tree.TheVariants.{Leaf, Branch', Chain'}
 use Rattle.frontier.specs.Books.{Known}
-use Rattle.search.specs.Calls.{Mine, WaitsAs, StandsFor, Good, NoneLeft, Same, Takes, Starts, PoseRefused, Emptied}
-use Rattle.frontier.specs.Frames.{list_of, Sized}
-use Rattle.frontier.specs.Trees.{boxes, leaves, In, Apart, Left, Holds, held, Among, standing, AllApart, Elsewhere, Cleared}
+use Rattle.search.specs.Parts.{tree_of}
+use Rattle.search.specs.Calls.{Mine, WaitsAs, StandsFor, Good, Same, Takes, Starts, PoseRefused, Holding, Emptied}
+use Rattle.row.specs.Items.{items}
+use Rattle.frontier.specs.Trees.{leaves, Left, Holds, held, Among, standing, Elsewhere}
 use Rattle.frontier.proofs.Moves.{frame, stands_live}
-use Rattle.search.proofs.Runs.{rebanked, same_rebanked, same_good}
+use Rattle.search.proofs.Along.{Called}
+use Rattle.search.proofs.Runs.{same_good}
 
 -- what is left stands where a store that is not in it ends
 left_frame : (K : Kind) (V : ℕ) (book : Book) {m n : Meaning} (P : ℕ → Type 0) → Elsewhere m n P → (d : Bool) (t : Tree) (T : State)
@@ -47,11 +49,6 @@ released_else s r = record {
 abbrev taken_of : {S : Type 0} → Search S → S → Search S
 taken_of s b = record { bank = b; book = s.book; params = s.params; tree = s.tree; pool = s.pool; waiting = None; posed = s.posed; over = s.over; steps = s.steps; stock = s.stock }
 
-pub record Took {S : Type 0} (v : View S) (s t : Search S) : Type 0 where
-  pub good : Good v t
-  pub does : Takes v s t
-  pub none_left : NoneLeft v s t
-
 -- A rule of a book that the bank knows.
 pub record Asked (K : Kind) (book : Book) (r : ℕ) (q : RuleOf) : Type 0 where
   pub there : r < length (meaning book)
@@ -60,29 +57,38 @@ pub record Asked (K : Kind) (book : Book) (r : ℕ) (q : RuleOf) : Type 0 where
   pub rooted : Rooted (book_nodes book) q
   pub means : rule_at (meaning book) r ≡ rule_of (book_nodes book) q
 
-abbrev begun : {S : Type 0} → Search S → S → Book → ℕ → ℕ → FrameOf → ℕ → ℕ → Search S
-begun u b book p i f n st = record {
+pub asked_of :
+    (K : Kind) (book : Book) (r : ℕ) (q : RuleOf) → r < length (meaning book) → IsBook (meaning book) → Known K (book_nodes book) (length (book_nodes book))
+    → Rooted (book_nodes book) q → rule_at (meaning book) r ≡ rule_of (book_nodes book) q → Asked K book r q
+asked_of K book n q t w k r m = record { there = t; well = w; known = k; rooted = r; means = m }
+
+-- a rule is posed with the boxes q
+abbrev begun : {S : Type 0} → Search S → S → Book → ℕ → ℕ → Row ℕ 16 → ℕ → ℕ → Vec (Box Tree Global) Global → Option Found → Search S
+begun s b book p i f n st q x = record {
   bank = b;
   book = book;
   params = p;
   tree = Leaf (record { goal = i; frame = f; n = n; store = st });
-  pool = u.pool;
-  waiting = u.waiting;
+  pool = q;
+  waiting = x;
   posed = true;
   over = false;
   steps = 0;
-  stock = u.stock;
+  stock = s.stock;
 }
 
-pub record Posed {S : Type 0} (v : View S) (s t : Search S) (book : Book) (r : ℕ) : Type 0 where
-  pub good : Good v t
-  pub does : Starts v s book r t
-  pub none_left : NoneLeft v s t
+-- what was held is released, and nothing is posed in its place
+abbrev emptied_of : {S : Type 0} → Search S → S → Option Tree → Vec (Box Tree Global) Global → Option Found → Search S
+emptied_of s b u q x = record { bank = b; book = s.book; params = s.params; tree = tree_of u; pool = q; waiting = x; posed = s.posed; over = is_none u; steps = s.steps; stock = s.stock }
 
 pub record Unposed {S : Type 0} (v : View S) (s t : Search S) (book : Book) (r : ℕ) (e : BankRefusal) : Type 0 where
   pub good : Good v t
   pub refused : PoseRefused v s book r (NoStock e)
   pub same : Same v s t
+
+pub some_of : (x : Option Found) → is_some x ≡ true → (y : Found) × (x ≡ Some y)
+some_of None h = absurd (false≢true h)
+some_of (Some y) h = (y, refl)
 
 -- a tree has a leaf
 some_leaf : (t : Tree) → 1 ≤ leaves t
@@ -116,7 +122,31 @@ module _ {S : Type 0} (v : View S) (s : Search S) (g : Good v s) where
       at true p = let q = g.going p in waiting_live x w q.0 q.1 q.2 q.3 q.4
       at false p = let q = g.idle p in let e = sym w ∙ q.1 in let z : ◌≡◌ {A = ℕ} 0 1 = cc in absurd (omega (arith, z))
 
-  pub took : (b : S) (x : Found) → s.posed ≡ true → s.waiting ≡ Some x → Released (v.meaning s.bank) (v.meaning b) x.store → Took v s (taken_of s b)
+  tree_live : (x : ℕ) → Among s.over s.tree x → (v.meaning s.bank).live x ≡ true
+  tree_live x i = at s.posed refl
+    where
+      in_left : (d : Bool) (T : State) → Among d s.tree x → Left v.kind v.variables s.book (v.meaning s.bank) d s.tree T → (v.meaning s.bank).live x ≡ true
+      in_left true T i h = absurd i
+      in_left false None i h = absurd h
+      in_left false (Some T) i h = stands_live v.kind v.variables s.book (v.meaning s.bank) s.tree T h x i
+
+      at : (e : Bool) → s.posed ≡ e → (v.meaning s.bank).live x ≡ true
+      at true p = let q = g.going p in in_left s.over q.2 i q.4.tree
+      at false p = absurd (subst (λ (e : Bool). Among e s.tree x) (g.idle p).0 i)
+
+  waits_live : (x : ℕ) (w : Option Found) → s.waiting ≡ w → Holds w x → (v.meaning s.bank).live x ≡ true
+  waits_live x None e h = absurd h
+  waits_live x (Some y) e h = sym (ap (v.meaning s.bank).live h) ∙ answer_live y e
+
+  pub holding : Holding (v.meaning s.bank) s.over s.tree s.waiting s.pool
+  holding = record {
+    live = λ x i. elim i [ inl j ↦ tree_live x j | inr j ↦ waits_live x s.waiting refl j ];
+    apart = g.apart;
+    parted = g.parted;
+    room = omega (arith, g.pool, g.room);
+  }
+
+  pub took : (b : S) (x : Found) → s.posed ≡ true → s.waiting ≡ Some x → Released (v.meaning s.bank) (v.meaning b) x.store → Called v s (taken_of s b) (Takes v s (taken_of s b))
   took b x p w r =
       let n = v.meaning b in
       let off : (z : ℕ) → Among s.over s.tree z → x.store ≡ z → ⊥ = λ z i h. g.parted z (subst (λ (y : Option Found). Holds y z) (sym w) h) i in
@@ -168,19 +198,20 @@ module _ {S : Type 0} (v : View S) (s : Search S) (g : Good v s) where
         };
       }
 
-module _ {S : Type 0} (v : View S) (s u : Search S) (g : Good v s) (c : Emptied v s u) where
+module _ {S : Type 0} (v : View S) (s : Search S) (g : Good v s) (k : S) (u : Option Tree) (x : Option Found) (q : Vec (Box Tree Global) Global)
+    (c : Emptied (v.meaning s.bank) (v.meaning k) s.over s.tree s.waiting s.pool q) (none : (u ≡ None) × (x ≡ None)) where
   pub posing :
-      (b : S) (book : Book) (r : ℕ) (q : RuleOf) (f : FrameOf) (st : ℕ) → Asked v.kind book r q → Sized f → list_of f ≡ upto q.params
-      → Added (v.meaning u.bank) (v.meaning b) st (all_admitted v.kind v.variables)
-      → Posed v s (begun u b book q.params q.goal f q.params st) book r
-  posing b book r q f st a sz fr add =
+      (b : S) (book : Book) (r : ℕ) (a : RuleOf) (f : Row ℕ 16) (st : ℕ) → Asked v.kind book r a → items f ≡ upto a.params
+      → Added (v.meaning k) (v.meaning b) st (all_admitted v.kind v.variables)
+      → let t = begun s b book a.params a.goal f a.params st q x in Called v s t (Starts v s book r t)
+  posing b book r rule_asked f st a fr add =
       let m = v.meaning s.bank in
-      let mid = v.meaning u.bank in
+      let mid = v.meaning k in
       let n = v.meaning b in
       let rules = meaning book in
       let rule = rule_at rules r in
-      let t = begun u b book q.params q.goal f q.params st in
-      let params : q.params ≡ rule.params = sym (ap (λ (x : Rule). x.params) a.means) in
+      let t = begun s b book rule_asked.params rule_asked.goal f rule_asked.params st q x in
+      let params : rule_asked.params ≡ rule.params = sym (ap (λ (x : Rule). x.params) a.means) in
       let stands : StandsFor v t rules rule (Some (posed rule)) [] = record {
         copies = record { means = refl; well_formed = a.well.fits; known = a.known };
         fits = own_rules_fit_lem rules a.well.fits r a.there;
@@ -188,24 +219,23 @@ module _ {S : Type 0} (v : View S) (s u : Search S) (g : Good v s) (c : Emptied 
         run = begin;
         tree = record {
           goal = record { inside = a.rooted.1; scoped = a.rooted.2 ∙ params ∙ sym (upto_length rule.params); is = sym (ap (λ (x : Rule). x.goal) a.means) };
-          sized = sz;
           frame = fr ∙ ap upto params;
           count = params;
           within = omega (arith, a.rooted.0, params, v.laws.wide);
           store = record { live = add.is; solutions = λ σ. add.has σ ∙ sym (and-true (all_admitted v.kind v.variables σ)) };
         };
-        waits = subst (λ (y : Option Found). WaitsAs v.kind v.variables n y 0 []) (sym c.waiting) tt;
+        waits = subst (λ (y : Option Found). WaitsAs v.kind v.variables n y 0 []) (sym none.1) tt;
       } in
       let apart_from : (z : ℕ) → mid.live z ≡ true → z ≡ st → ⊥ = λ z h e. both_ways (mid.live st) add.was (sym (ap mid.live e) ∙ h) in
       record {
         good = record {
-          pool = omega (arith, c.spare_boxes);
+          pool = omega (arith, c.spare_boxes, g.pool);
           room = omega (arith, c.room, g.room);
-          spare = omega (arith, add.spare, c.bank.spare, g.spare, c.stock, ap held c.waiting);
+          spare = omega (arith, add.spare, c.bank.spare, g.spare, ap held none.1);
           few = a.rooted.0;
           blank = λ h. refl;
           apart = tt;
-          parted = λ z h i. subst (λ (y : Option Found). Holds y z) c.waiting h;
+          parted = λ z h i. subst (λ (y : Option Found). Holds y z) none.1 h;
           going = λ _. (rules, rule, Some (posed rule), [], stands);
           idle = λ e. absurd (false≢true (sym e));
         };
@@ -213,16 +243,16 @@ module _ {S : Type 0} (v : View S) (s u : Search S) (g : Good v s) (c : Emptied 
           there = a.there;
           is_posed = refl;
           steps = refl;
-          empty = c.waiting;
+          empty = none.1;
           book_is = refl;
-          stock = c.stock;
+          stock = refl;
           stands = stands;
           others = record {
             live = λ z i h. let k = c.bank.live z i ∙ h in add.others.live z (apart_from z k) ∙ k;
             solutions = λ z i h σ. let k = c.bank.live z i ∙ h in add.others.solutions z (apart_from z k) k σ ∙ c.bank.solutions z i h σ;
             theirs = λ z i h y. elim y [
               | inl j ↦ apart_from z (c.bank.live z i ∙ h) (sym j)
-              | inr j ↦ subst (λ (y : Option Found). Holds y z) c.waiting j
+              | inr j ↦ subst (λ (y : Option Found). Holds y z) none.1 j
             ];
           };
           released = λ z i no. add.others.live z (λ e. no (inl (sym e))) ∙ c.bank.gone z i;
@@ -240,140 +270,29 @@ module _ {S : Type 0} (v : View S) (s u : Search S) (g : Good v s) (c : Emptied 
 
   -- where no store is spare, nothing was held, and nothing has changed
   pub not_posing :
-      (b : S) (book : Book) (r : ℕ) (q : RuleOf) (e : BankRefusal) → Asked v.kind book r q
-      → Opens v.kind v.variables (v.meaning u.bank) (v.meaning b) (Err e) → Unposed v s (rebanked u b) book r e
-  not_posing b book r q e a o =
-      let n = no_open v.kind v.variables e o in
-      let none : s.stock ≡ 0 = omega (arith, n.0, c.bank.spare, g.spare) in
-      let held_none = holds_none s.over s.tree s.waiting (omega (arith, none, g.spare)) in
-      let was : u ≡ s = c.idle held_none.0 held_none.1 in
-      let same : Same v s (rebanked u b) = subst (λ (x : Search S). Same v x (rebanked u b)) was (same_rebanked v u b n.2) in
+      (b : S) (book : Book) (r : ℕ) (a : RuleOf) (w : BankRefusal)
+      → (s.over ≡ true → s.waiting ≡ None → (k ≡ s.bank) × (tree_of u ≡ s.tree) × (q ≡ s.pool))
+      → Asked v.kind book r a → Opens v.kind v.variables (v.meaning k) (v.meaning b) (Err w) → Unposed v s (emptied_of s b u q x) book r w
+  not_posing b book r a w idle asked o =
+      let n = no_open v.kind v.variables w o in
+      let stock : s.stock ≡ 0 = omega (arith, n.0, c.bank.spare, g.spare) in
+      let held_none = holds_none s.over s.tree s.waiting (omega (arith, stock, g.spare)) in
+      let was = idle held_none.0 held_none.1 in
+      let same : Same v s (emptied_of s b u q x) = record {
+        bank = subst (λ (y : S). Unchanged (v.meaning y) (v.meaning b)) was.0 n.2;
+        book = refl;
+        params = refl;
+        tree = was.1;
+        waiting = none.1 ∙ sym held_none.1;
+        posed = refl;
+        over = ap (λ (t : Option Tree). is_none t) none.0 ∙ sym held_none.0;
+        steps = refl;
+        stock = refl;
+        spare_boxes = ap (λ (p : Vec (Box Tree Global) Global). vec_len p) was.2;
+        room = ap (λ (p : Vec (Box Tree Global) Global). vec_capacity p) was.2;
+      } in
       record {
-        good = same_good v s (rebanked u b) same g;
-        refused = record { there = a.there; known = a.known; stock = none; cause = n.1 };
+        good = same_good v s (emptied_of s b u q x) same g;
+        refused = record { there = asked.there; known = asked.known; stock = stock; cause = n.1 };
         same = same;
-      }
-
-pub record Clearing {S : Type 0} (v : View S) (u : Search S) : Type 0 where
-  pub room : vec_len u.pool + boxes u.tree ≤ vec_capacity u.pool
-  pub live : (x : ℕ) → In u.tree x → (v.meaning u.bank).live x ≡ true
-  pub apart : Apart u.tree
-
--- The answer that waited is released.
-pub record Mid {S : Type 0} (v : View S) (s u : Search S) : Type 0 where
-  pub bank : Cleared (v.meaning s.bank) (v.meaning u.bank) (Holds s.waiting) (held s.waiting)
-  pub tree : u.tree ≡ s.tree
-  pub pool : u.pool ≡ s.pool
-  pub over : u.over ≡ s.over
-  pub stock : u.stock ≡ s.stock
-  pub waiting : u.waiting ≡ None
-  pub idle : s.waiting ≡ None → u ≡ s
-
-pub mid_some : {S : Type 0} (v : View S) (s u : Search S) (b : S) (x : Found) → u ≡ taken_of s b → s.waiting ≡ Some x → Released (v.meaning s.bank) (v.meaning b) x.store → Mid v s u
-mid_some v s u b x e w r = subst (Mid v s) (sym e) (record {
-  bank = subst (λ (y : Option Found). Cleared (v.meaning s.bank) (v.meaning b) (Holds y) (held y)) (sym w) (record {
-    live = λ z i. r.others.live z (λ h. i (sym h));
-    solutions = λ z i h σ. r.others.solutions z (λ k. i (sym k)) h σ;
-    gone = λ z h. sym (ap (v.meaning b).live h) ∙ r.is;
-    spare = r.spare;
-  });
-  tree = refl;
-  pool = refl;
-  over = refl;
-  stock = refl;
-  waiting = refl;
-  idle = λ h. let k = sym w ∙ h in let z : ◌≡◌ {A = ℕ} 0 1 = cc in absurd (omega (arith, z));
-})
-
-pub mid_none : {S : Type 0} (v : View S) (s u : Search S) → u ≡ s → s.waiting ≡ None → Mid v s u
-mid_none v s u e w = subst (Mid v s) (sym e) (record {
-  bank = subst (λ (y : Option Found). Cleared (v.meaning s.bank) (v.meaning s.bank) (Holds y) (held y)) (sym w) (record {
-    live = λ z i. refl;
-    solutions = λ z i h σ. refl;
-    gone = λ z h. absurd h;
-    spare = omega arith;
-  });
-  tree = refl;
-  pool = refl;
-  over = refl;
-  stock = refl;
-  waiting = w;
-  idle = λ h. refl;
-})
-
-module _ {S : Type 0} (v : View S) (s u : Search S) (g : Good v s) (d : Mid v s u) where
-  tree_live : s.over ≡ false → (x : ℕ) → In s.tree x → (v.meaning s.bank).live x ≡ true
-  tree_live o x i = at s.posed refl
-    where
-      in_left : (T : State) → Left v.kind v.variables s.book (v.meaning s.bank) false s.tree T → (v.meaning s.bank).live x ≡ true
-      in_left None h = absurd h
-      in_left (Some T) h = stands_live v.kind v.variables s.book (v.meaning s.bank) s.tree T h x i
-
-      at : (e : Bool) → s.posed ≡ e → (v.meaning s.bank).live x ≡ true
-      at true p = let q = g.going p in in_left q.2 (subst (λ (e : Bool). Left v.kind v.variables s.book (v.meaning s.bank) e s.tree q.2) o q.4.tree)
-      at false p = absurd (false≢true (sym o ∙ (g.idle p).0))
-
-  among : s.over ≡ false → (x : ℕ) → In s.tree x → Among s.over s.tree x
-  among o x i = subst (λ (e : Bool). Among e s.tree x) (sym o) i
-
-  pub clearing : u.over ≡ false → Clearing v u
-  clearing o =
-      let p : s.over ≡ false = sym d.over ∙ o in
-      let in_s : (x : ℕ) → In u.tree x → In s.tree x = λ x i. subst (λ (t : Tree). In t x) d.tree i in
-      record {
-        room = omega (arith, ap (λ (q : Vec (Box Tree Global) Global). vec_len q) d.pool, ap (λ (q : Vec (Box Tree Global) Global). vec_capacity q) d.pool, ap boxes d.tree, g.pool, g.room);
-        live = λ x i. d.bank.live x (λ h. g.parted x h (among p x (in_s x i))) ∙ tree_live p x (in_s x i);
-        apart = subst Apart (sym d.tree) (subst (λ (e : Bool). AllApart e s.tree) p g.apart);
-      }
-
-  pub emptied_over : u.over ≡ true → Emptied v s u
-  emptied_over o =
-      let p : s.over ≡ true = sym d.over ∙ o in
-      let none_in : (x : ℕ) → Among s.over s.tree x → ⊥ = λ x i. subst (λ (e : Bool). Among e s.tree x) p i in
-      let len : vec_len u.pool ≡ vec_len s.pool = ap (λ (q : Vec (Box Tree Global) Global). vec_len q) d.pool in
-      record {
-        bank = record {
-          live = λ x i. d.bank.live x (λ h. i (inr h));
-          solutions = λ x i h σ. d.bank.solutions x (λ k. i (inr k)) h σ;
-          gone = λ x m. elim m [ inl i ↦ absurd (none_in x i) | inr h ↦ d.bank.gone x h ];
-          spare = omega (arith, d.bank.spare, ap (λ (e : Bool). standing e s.tree) p);
-        };
-        over = o;
-        waiting = d.waiting;
-        flat = ap boxes d.tree ∙ g.blank p;
-        spare_boxes = omega (arith, len, g.blank p, g.pool);
-        room = ap (λ (q : Vec (Box Tree Global) Global). vec_capacity q) d.pool;
-        stock = d.stock;
-        idle = λ x y. d.idle y;
-      }
-
-  pub emptied_clear :
-      (t : Search S) → u.over ≡ false
-      → Cleared (v.meaning u.bank) (v.meaning t.bank) (In u.tree) (leaves u.tree)
-      → t.over ≡ true → t.waiting ≡ u.waiting → boxes t.tree ≡ 0 → vec_len t.pool ≡ vec_len u.pool + boxes u.tree → vec_capacity t.pool ≡ vec_capacity u.pool → t.stock ≡ u.stock
-      → Emptied v s t
-  emptied_clear t o c to tw book tl tc ts =
-      let p : s.over ≡ false = sym d.over ∙ o in
-      let in_s : (x : ℕ) → In u.tree x → In s.tree x = λ x i. subst (λ (t : Tree). In t x) d.tree i in
-      let in_u : (x : ℕ) → Among s.over s.tree x → In u.tree x = λ x i. subst (λ (t : Tree). In t x) (sym d.tree) (subst (λ (e : Bool). Among e s.tree x) p i) in
-      let len : vec_len u.pool ≡ vec_len s.pool = ap (λ (q : Vec (Box Tree Global) Global). vec_len q) d.pool in
-      record {
-        bank = record {
-          live = λ x i. c.live x (λ h. i (inl (among p x (in_s x h)))) ∙ d.bank.live x (λ h. i (inr h));
-          solutions = λ x i h σ.
-              let k = d.bank.live x (λ y. i (inr y)) ∙ h in
-              c.solutions x (λ y. i (inl (among p x (in_s x y)))) k σ ∙ d.bank.solutions x (λ y. i (inr y)) h σ;
-          gone = λ x m. elim m [
-            | inl i ↦ c.gone x (in_u x i)
-            | inr h ↦ c.live x (λ y. g.parted x h (among p x (in_s x y))) ∙ d.bank.gone x h
-          ];
-          spare = omega (arith, c.spare, d.bank.spare, ap (λ (e : Bool). standing e s.tree) p, ap leaves d.tree);
-        };
-        over = to;
-        waiting = tw ∙ d.waiting;
-        flat = book;
-        spare_boxes = omega (arith, tl, len, ap boxes d.tree, g.pool);
-        room = tc ∙ ap (λ (q : Vec (Box Tree Global) Global). vec_capacity q) d.pool;
-        stock = ts ∙ d.stock;
-        idle = λ x y. absurd (false≢true (sym p ∙ x));
       }

@@ -228,7 +228,6 @@ module _ {S : Type 0} (v : View S) (s t u : Search S) (k b : ℕ) (a : Along v s
     was_posed = a.was_posed;
     none_waited = a.none_waited;
     near = a.near;
-    good = o.good;
     is_posed = o.is_posed;
     steps = omega (arith, o.steps, a.steps);
     few = omega (arith, l);
@@ -242,24 +241,9 @@ module _ {S : Type 0} (v : View S) (s t u : Search S) (k b : ℕ) (a : Along v s
         record { state = m.state; entries = noted es u.steps m.given; stands = m.stands; since = since_step es u.waiting m.given m.answer };
   }
 
--- another bank
-abbrev pub rebanked : {S : Type 0} → Search S → S → Search S
-rebanked s b = record {
-  bank = b;
-  book = s.book;
-  params = s.params;
-  tree = s.tree;
-  pool = s.pool;
-  waiting = s.waiting;
-  posed = s.posed;
-  over = s.over;
-  steps = s.steps;
-  stock = s.stock;
-}
-
-pub same_rebanked : {S : Type 0} (v : View S) (s : Search S) (b : S) → Unchanged (v.meaning s.bank) (v.meaning b) → Same v s (rebanked s b)
-same_rebanked v s b u = record {
-  bank = u;
+pub same_refl : {S : Type 0} (v : View S) (s : Search S) → Same v s s
+same_refl v s = record {
+  bank = unchanged;
   book = refl;
   params = refl;
   tree = refl;
@@ -271,9 +255,6 @@ same_rebanked v s b u = record {
   spare_boxes = refl;
   room = refl;
 }
-
-pub same_refl : {S : Type 0} (v : View S) (s : Search S) → Same v s s
-same_refl v s = same_rebanked v s s.bank unchanged
 
 -- a run that may not begin changes nothing
 pub not_run : {S : Type 0} (v : View S) (s : Search S) (b : ℕ) (e : Refusal) → MayRun s b (Err e) → RunDoes v s b (Err e) s

@@ -3,7 +3,7 @@
 --   Mine        a store is one of the search's: a leaf has it, or the answer that waits
 --   WaitsAs     the answer that waits, if any, is the latest
 --   StandsFor   after its steps since the pose the search stands for the machine's state, with these answers
---   Good        what new gives, and each call needs and keeps
+--   Good        what holds of every search: the invariant of its type
 --   Untouched   live stores that are not the search's are as they were, and not the search's
 --   NoneLeft    what left the search has ended, and no store is new but the search's
 --   Same        the search is as it was
@@ -16,10 +16,11 @@
 --   MayRun      whether a run may begin, and StopsBy: why it stops, if it does
 --   halt_at     where a run halted that made so many steps
 --   AdvanceDoes one step of a run
---   Emptied     the search holds nothing
+--   Holding     what a search holds may be released, and Emptied: it holds nothing
 --
 -- A refusal stands with its cause, and with the fact that no earlier cause of its call holds.
-use Rattle.std.specs.Prelude.{◌≡◌, ℕ, ◌+◌, ◌^◌, ◌<◌, ◌≤◌, true, false, ◌⊎◌, List, [], ◌∷◌, ◌++◌, length, Some, None, Ok, Err, vec_len, vec_capacity, Option, Result, ◌≢◌}
+use Rattle.std.specs.Prelude.{◌≡◌, ℕ, ◌+◌, ◌^◌, ◌<◌, ◌≤◌, Bool, true, false, ◌⊎◌, List, [], ◌∷◌, ◌++◌, length, Some, None, Ok, Err, vec_len, vec_capacity, Option, Result, ◌≢◌, Vec, Box}
+use Rattle.std.specs.declared.alloc.Global.{Global}
 use Rattle.bank.specs.declared.Refusal.{Refusal as BankRefusal}
 use Rattle.bank.specs.declared.Refusal.TheVariants.{NoSpare}
 use Rattle.bank.specs.Calls.{Unchanged}
@@ -42,6 +43,7 @@ use Rattle.search.specs.declared.refusal.Refusal.TheVariants.{NoSuchRule, Unknow
 use Rattle.frontier.specs.declared.stop.Stop.{Stop}
 use Rattle.frontier.specs.declared.stop.Stop.TheVariants.{Nodes, Variables, Stores}
 use Rattle.frontier.specs.declared.tree.Found.{Found}
+use Rattle.frontier.specs.declared.tree.Tree.{Tree}
 use Rattle.frontier.specs.Books.{Copies, Known}
 use Rattle.search.specs.Unknowns.{Unknown}
 use Rattle.answer_line.specs.declared.Overlong.{Overlong}
@@ -362,7 +364,6 @@ pub record SteppedTo {S : Type 0} (v : View S) (t : Search S) (rules : Rules) (r
   pub answer : Given v.kind v.variables (v.meaning t.bank) t.waiting given
 
 pub record OneMore {S : Type 0} (v : View S) (s t : Search S) : Type 0 where
-  pub good : Good v t
   pub is_posed : t.posed ≡ true
   pub steps : t.steps ≡ s.steps + 1
   pub book : t.book ≡ s.book
@@ -381,12 +382,13 @@ AdvanceDoes v s (Ok u) t = OneMore v s t
 AdvanceDoes v s (Err e) t = NoMore v s t e
 
 -- pose, when what the search held is released
-pub record Emptied {S : Type 0} (v : View S) (s t : Search S) : Type 0 where
-  pub bank : Cleared (v.meaning s.bank) (v.meaning t.bank) (Mine s) (standing s.over s.tree + held s.waiting)
-  pub over : t.over ≡ true
-  pub waiting : t.waiting ≡ None
-  pub flat : boxes t.tree ≡ 0
-  pub spare_boxes : vec_len t.pool ≡ 1023
-  pub room : vec_capacity t.pool ≡ vec_capacity s.pool
-  pub stock : t.stock ≡ s.stock
-  pub idle : s.over ≡ true → s.waiting ≡ None → t ≡ s
+pub record Holding (m : Meaning) (d : Bool) (t : Tree) (w : Option Found) (p : Vec (Box Tree Global) Global) : Type 0 where
+  pub live : (x : ℕ) → Among d t x ⊎ Holds w x → m.live x ≡ true
+  pub apart : AllApart d t
+  pub parted : (x : ℕ) → Holds w x → Among d t x → ⊥
+  pub room : vec_len p + boxes t ≤ vec_capacity p
+
+pub record Emptied (m n : Meaning) (d : Bool) (t : Tree) (w : Option Found) (p q : Vec (Box Tree Global) Global) : Type 0 where
+  pub bank : Cleared m n (λ x. Among d t x ⊎ Holds w x) (standing d t + held w)
+  pub spare_boxes : vec_len q ≡ vec_len p + boxes t
+  pub room : vec_capacity q ≡ vec_capacity p

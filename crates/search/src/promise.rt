@@ -5,17 +5,10 @@ ghost use Rattle.search.specs.Promise.{Promise};
 use super::Search;
 use bank::Bank;
 
-// The smaller of two counts.
-fn smaller(left: u32, right: u32) -> u32
-    ensures { result ≡ min left right }
-{
-    left.min(right)
-}
-
 // The number of steps up to which the answers of two searches can be compared.
 pub fn common_steps<A: Bank, B: Bank>(left: &Search<A>, right: &Search<B>) -> u32
     ensures promise { Promise A.Bank.view B.Bank.view left.now right.now }
     ensures least { result ≡ min left.now.steps right.now.steps }
 {
-    smaller(left.steps, right.steps)
+    left.steps.min(right.steps)
 }

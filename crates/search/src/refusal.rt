@@ -61,7 +61,7 @@ impl Refusal {
         }
     }
 
-    // The number by which the refusal is known outside.
+    // The number by which the refusal is known outside. Variants that hold what is known of a refusal have no discriminants to cast.
     pub fn number(self) -> u8
         ensures { result ≡ number self }
     {

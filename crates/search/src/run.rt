@@ -1,16 +1,24 @@
 // Running a search.
-ghost use Rattle.std.specs.Prelude.{◌≡◌, ◌+◌, ◌^◌, ◌<◌, true, false, None};
-ghost use Rattle.search.specs.Calls.{Good, NoneLeft, AdvanceDoes, MayRun, StopsBy, RunDoes, halt_at};
+ghost use Rattle.std.specs.Prelude.{◌≡◌, ◌+◌, ◌^◌, ◌<◌, true, false, cond, None};
+ghost use Rattle.search.specs.Calls.{NoneLeft, AdvanceDoes, MayRun, StopsBy, RunDoes, halt_at};
 
 use super::refusal::{Halt, Refusal};
 use super::{Outcome, Ran, Search};
 use bank::Bank;
-use frontier::{Stop, next_goal, step};
+use frontier::{Stop, Tree, next_goal, step};
+
+// Where it has ended, no tree is left.
+fn end_if(tree: &mut Option<Tree>, ended: bool)
+    ensures { tree.new ≡ cond ended None tree.old }
+{
+    if ended {
+        *tree = None;
+    }
+}
 
 impl<B: Bank> Search<B> {
     // One step of the machine.
     fn advance(&mut self) -> Result<(), Stop>
-        requires good { Good B.Bank.view self.old }
         requires posed { self.old.posed ≡ true }
         requires going { self.old.over ≡ false }
         requires empty { self.old.waiting ≡ None }
@@ -18,28 +26,25 @@ impl<B: Bank> Search<B> {
         ensures does { AdvanceDoes B.Bank.view self.old result self.new }
         ensures none_left { NoneLeft B.Bank.view self.old self.new }
     {
-        match step(&self.book, &mut self.bank, &mut self.pool, &mut self.tree) {
-            Err(e) => Err(e),
-            Ok(made) => {
-                self.over = made.ended;
-                self.waiting = made.answer;
-                self.steps += 1;
-                Ok(())
-            }
-        }
+        let tree = self.tree.as_mut().unwrap();
+        let made = step(&self.book, &mut self.bank, &mut self.pool, tree)?;
+        end_if(&mut self.tree, made.ended);
+        self.waiting = made.answer;
+        self.steps += 1;
+        Ok(())
     }
 
     // Where a run stands that has made so many steps.
     fn halt(&self, steps: u32) -> Halt
-        requires good { Good B.Bank.view self.now }
         requires posed { self.now.posed ≡ true }
         requires going { self.now.over ≡ false }
         ensures { result ≡ halt_at self.now steps }
     {
+        let tree = self.tree.as_ref().unwrap();
         Halt {
             steps,
             total: self.steps,
-            line: self.book.line(next_goal(&self.tree)),
+            line: self.book.line(next_goal(tree)),
         }
     }
 
@@ -50,10 +55,10 @@ impl<B: Bank> Search<B> {
         if !self.posed {
             return Err(Refusal::NothingPosed);
         }
-        if let Some(_) = self.waiting {
+        if self.waiting.is_some() {
             return Err(Refusal::AnswerWaits);
         }
-        if budget > u32::MAX - self.steps {
+        if self.steps.checked_add(budget).is_none() {
             return Err(Refusal::TooManySteps);
         }
         Ok(())
@@ -66,7 +71,7 @@ impl<B: Bank> Search<B> {
         if let Some(x) = self.waiting {
             return Some(Outcome::Answer(x));
         }
-        if self.over {
+        if self.tree.is_none() {
             return Some(Outcome::Exhausted);
         }
         if steps == budget {
@@ -89,8 +94,6 @@ impl<B: Bank> Search<B> {
 
     // Up to `budget` steps, until an answer comes or nothing is left.
     pub fn run(&mut self, budget: u32) -> Result<Ran, Refusal>
-        requires { Good B.Bank.view self.old }
-        ensures good { Good B.Bank.view self.new }
         ensures does { RunDoes B.Bank.view self.old budget result self.new }
         ensures none_left { NoneLeft B.Bank.view self.old self.new }
     {

@@ -6,9 +6,10 @@ use Rattle.std.proofs.lemmas.Bool.{eq-eqb, cases_eq}
 use Rattle.bank.specs.Kinds.{Assignment, all_admitted}
 use Rattle.semitones.specs.declared.cells.Cell.{Cell}
 use Rattle.semitones.specs.declared.cells.Record.{Record}
-use Rattle.semitones.specs.Whole.{whole, eq_z}
+use Rattle.semitones.specs.Whole.{whole}
+use Rattle.std.specs.Ordering.{int_eq}
 use Rattle.semitones.specs.Cells.{node, root_of_lem, by_of, tied, agrees, solves, Sound}
-use Rattle.semitones.specs.Joins.{Same, Blank}
+use Rattle.semitones.specs.Joins.{Same}
 use Rattle.semitones.specs.laws.Solves.{cell_out, agrees_from}
 
 -- a node is tied to its own root
@@ -22,13 +23,13 @@ tied_some r a (suc n) h = ⊎_elim
     (λ ne. let some = tied_some r a n (omega arith) in omega arith)
     (cases_eq a n)
 
-module _ (r : Record) (B : Blank r) where
+module _ (r : Record) (none : r.used ≡ 0) where
   own : (a : ℕ) → (root_of_lem r a ≡ a) × (by_of r a ≡ pos 0)
-  own a = let e = cell_out r a (omega (arith, B.none)) in (ap (λ (c : Cell). c.root) e, ap (λ (c : Cell). c.by) e)
+  own a = let e = cell_out r a (omega (arith, none)) in (ap (λ (c : Cell). c.root) e, ap (λ (c : Cell). c.by) e)
 
   pub blank_sound : Sound r
   blank_sound = record {
-    sized = B.sized;
+    few = omega (arith, none);
     low = λ a. omega (arith, (own a).0);
     top = λ a. ap (root_of_lem r) (own a).0;
     flat = λ a. (own (root_of_lem r a)).1;
@@ -65,8 +66,8 @@ module _ (r s : Record) (A : Same r s) where
   unfolding agrees
   agrees_same σ zero = refl
   agrees_same σ (suc n) =
-      ap (λ (c : Cell). eq_z (node σ n) (node σ c.root +ℤ c.by) && agrees s n σ) (A.cells n)
-      ∙ ap (λ (b : Bool). eq_z (node σ n) (node σ (root_of_lem r n) +ℤ by_of r n) && b) (agrees_same σ n)
+      ap (λ (c : Cell). int_eq (node σ n) (node σ c.root +ℤ c.by) && agrees s n σ) (A.cells n)
+      ∙ ap (λ (b : Bool). int_eq (node σ n) (node σ (root_of_lem r n) +ℤ by_of r n) && b) (agrees_same σ n)
 
   pub same_solves : (σ : Assignment) → solves s σ ≡ solves r σ
   unfolding solves
@@ -74,7 +75,7 @@ module _ (r s : Record) (A : Same r s) where
 
   pub same_sound : Sound r → Sound s
   same_sound S = record {
-    sized = A.sized;
+    few = A.few;
     low = λ a. omega (arith, root_same a, S.low a);
     top = λ a. ap (root_of_lem s) (root_same a) ∙ root_same (root_of_lem r a) ∙ S.top a ∙ sym (root_same a);
     flat = λ a. ap (by_of s) (root_same a) ∙ by_same (root_of_lem r a) ∙ S.flat a;

@@ -162,7 +162,7 @@ module _ (r s : Record) (p q from to : ℕ) (d g : ℤ) (S : Sound r) (lp : p < 
 
   pub s_sound : Sound s
   unfolding size
-  s_sound = record { sized = M.sized; low = s_low; top = λ a. (s_top a).0; flat = λ a. (s_top a).1; near = s_near }
+  s_sound = record { few = M.few; low = s_low; top = λ a. (s_top a).0; flat = λ a. (s_top a).1; near = s_near }
 
   module _ (σ : Assignment) where
     pub forth : solves r σ ≡ true → node σ p ≡ node σ q +ℤ d → solves s σ ≡ true

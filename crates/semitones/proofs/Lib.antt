@@ -1,9 +1,8 @@
+pub mod Copying
 pub mod Moving
 pub mod Joining
 pub mod Told
-pub mod Copying
 pub mod Blanks
 pub mod Telling
 pub mod Saying
-pub mod Banks
 pub mod Naming

@@ -33,4 +33,4 @@ pub says_at :
     (slots : List (Slot Record)) (spare s x : ℕ) → Sound (record_at slots s) → live_at slots s ≡ true → x < 256 → Says ((stores slots spare).solutions s) x ((stores slots spare).text s x)
 says_at slots spare s x S l h =
     subst (λ (f : Solutions). Says f x ((stores slots spare).text s x)) (sym (noted_is slots s _ solves no_slot (live_within slots s l)))
-    (subst (λ (text : List ℕ). Says (solves (record_at slots s)) x text) (sym (text_at slots spare s l x)) (by_root (record_at slots s) S x h (root_of_lem (record_at slots s) (suc x)) refl))
+    (subst (λ (text : List ℕ). Says (solves (record_at slots s)) x text) (sym (text_at slots s l no_slot spare x)) (by_root (record_at slots s) S x h (root_of_lem (record_at slots s) (suc x)) refl))

@@ -8,7 +8,7 @@ use Rattle.bank.specs.declared.Refusal.TheVariants.{NotLive, NoSpare, BadConstra
 use Rattle.bank.specs.Kinds.{Assignment, Condition, holds_at}
 use Rattle.bank.specs.Calls.{Tells}
 use Rattle.records.specs.declared.slots.Slot.{Slot}
-use Rattle.records.specs.Slots.{live_at}
+use Rattle.records.specs.Slots.{live_at, holding}
 use Rattle.records.proofs.Places.{live_is, live_within}
 use Rattle.records.proofs.Writes.{unchanged, kept_all, accepted}
 use Rattle.semitones.specs.declared.cells.Edge.{Edge}
@@ -18,7 +18,7 @@ use Rattle.semitones.specs.Cells.{solves, shown, stores, Sound}
 use Rattle.semitones.specs.Edges.{Edge-of}
 use Rattle.semitones.specs.Joins.{says, Joins}
 use Rattle.semitones.specs.laws.Solves.{given, given_solves}
-use Rattle.semitones.specs.laws.Laws.{no_slot, record_at, solutions_at}
+use Rattle.semitones.specs.laws.Laws.{solutions_at}
 
 pub joins_sound : (r s : Record) (e : Edge) (y : Result Effect Refusal) → Sound r → Joins r s e y → Sound s
 joins_sound r s e (Ok Kept) S J = subst Sound (sym J.same) S
@@ -30,30 +30,33 @@ joins_sound r s e (Err BadConstraint) S J = absurd J
 joins_sound r s e (Err BadVariable) S J = absurd J
 joins_sound r s e (Err TextTooLong) S J = absurd J
 
--- the slot of store i, with another record
-abbrev pub changed : List (Slot Record) → ℕ → Record → Slot Record
-changed slots i s = record { live = (get_or slots i no_slot).live; «record» = s }
+module _ (slots : List (Slot Record)) (spare i : ℕ) (was : live_at slots i ≡ true) (past : Slot Record) where
+  -- the record of store i, and its slot with another
+  abbrev r : Record
+  r = (get_or slots i past).record
 
-module _ (slots : List (Slot Record)) (spare i : ℕ) (was : live_at slots i ≡ true) where
-  pub still_live : (s : Record) → (changed slots i s).live ≡ true
-  still_live s = sym (live_is slots i no_slot (live_within slots i was)) ∙ was
+  abbrev changed : Record → Slot Record
+  changed s = holding s (get_or slots i past)
 
-  written_back : (s : Record) → s ≡ record_at slots i → set slots i (changed slots i s) ≡ slots
-  written_back s e = ap (λ (x : Record). set slots i (changed slots i x)) e ∙ set-get_or slots i no_slot
+  still_live : (get_or slots i past).live ≡ true
+  still_live = sym (live_is slots i past (live_within slots i was)) ∙ was
 
-  module _ (c : Condition) (e : Edge) (E : Edge-of c e) (S : Sound (record_at slots i)) where
-    holds : (σ : Assignment) → (solves (record_at slots i) σ && says e σ) ≡ ((stores slots spare).solutions i σ && holds_at whole c σ)
+  written_back : (s : Record) → s ≡ r → set slots i (changed s) ≡ slots
+  written_back s e = ap (λ (x : Record). set slots i (changed x)) e ∙ set-get_or slots i past
+
+  module _ (c : Condition) (e : Edge) (E : Edge-of c e) (S : Sound r) where
+    holds : (σ : Assignment) → (solves r σ && says e σ) ≡ ((stores slots spare).solutions i σ && holds_at whole c σ)
     holds σ =
-        ap (λ (b : Bool). b && says e σ) (sym (solutions_at slots spare i was σ))
+        ap (λ (b : Bool). b && says e σ) (sym (solutions_at slots i was past spare σ))
         ∙ ap (λ (b : Bool). (stores slots spare).solutions i σ && b) (sym (E.holds σ))
 
-    pub tells : (s : Record) (y : Result Effect Refusal) → Joins (record_at slots i) s e y → Tells whole 256 (stores slots spare) (stores (set slots i (changed slots i s)) spare) i c y
+    pub tells : (s : Record) (y : Result Effect Refusal) → Joins r s e y → Tells whole 256 (stores slots spare) (stores (set slots i (changed s)) spare) i c y
     tells s (Ok Kept) J =
         subst (λ (after : List (Slot Record)). Tells whole 256 (stores slots spare) (stores after spare) i c (Ok Kept)) (sym (written_back s J.same))
-        (kept_all whole 256 (stores slots spare) i c was E.formed E.within (λ σ. solutions_at slots spare i was σ ∙ J.always σ ∙ holds σ)
-        (given (record_at slots i), solutions_at slots spare i was (given (record_at slots i)) ∙ given_solves (record_at slots i) S))
+        (kept_all whole 256 (stores slots spare) i c was E.formed E.within (λ σ. solutions_at slots i was past spare σ ∙ J.always σ ∙ holds σ)
+        (given r, solutions_at slots i was past spare (given r) ∙ given_solves r S))
     tells s (Ok Narrowed) J =
-        accepted solves shown slots i (changed slots i s) (live_within slots i was) whole 256 spare c was E.formed E.within (still_live s) (λ σ. J.solutions σ ∙ holds σ)
+        accepted solves shown slots i (changed s) (live_within slots i was) whole 256 spare c was E.formed E.within still_live (λ σ. J.solutions σ ∙ holds σ)
         (given s, given_solves s J.sound)
     tells s (Err Contradiction) J =
         subst (λ (after : List (Slot Record)). Tells whole 256 (stores slots spare) (stores after spare) i c (Err Contradiction)) (sym (written_back s J.same))

@@ -8,16 +8,16 @@
 --   named     the text by a root and a distance: a number, or the name of a variable with the distance from it
 --   shown     the text of a variable
 --   stores    the meaning of slots
---   Sized     the cells in use are there (for private contracts, as are the next two)
---   tied      how many of the nodes below n have a root
+--   tied      how many of the nodes below n have a root (for private contracts, as is the next)
 --   Sound     what every store's record keeps
-use Rattle.std.specs.Prelude.{◌≡◌, ℕ, zero, suc, ◌+◌, ◌*◌, ◌<◌, ◌≤◌, true, cond, ◌&&◌, List, [], ◌∷◌, ◌++◌, length, ℤ, pos, negsuc, ◌+ℤ◌, ◌≤ℤ◌, decimal, ◌==◌, nat_lt, slice_index_or}
+use Rattle.std.specs.Prelude.{◌≡◌, ℕ, zero, suc, ◌+◌, ◌*◌, ◌<◌, ◌≤◌, true, cond, ◌&&◌, List, [], ◌∷◌, ◌++◌, ℤ, pos, negsuc, ◌+ℤ◌, ◌≤ℤ◌, decimal, ◌==◌, nat_lt, slice_index_or}
 use Rattle.std.specs.Fmt.{signed_decimal}
 use Rattle.bank.specs.Kinds.{Assignment, Solutions, all_admitted}
 use Rattle.bank.specs.Views.{Meaning}
 use Rattle.records.specs.declared.slots.Slot.{Slot}
 use Rattle.records.specs.Slots.{means}
-use Rattle.semitones.specs.Whole.{whole, eq_z, number_of}
+use Rattle.semitones.specs.Whole.{whole, number_of}
+use Rattle.std.specs.Ordering.{int_eq}
 use Rattle.semitones.specs.declared.cells.Cell.{Cell}
 use Rattle.semitones.specs.declared.cells.Record.{Record}
 
@@ -40,7 +40,7 @@ by_of r a = (cell_of r a).by
 -- each of the nodes below n lies where its cell says
 unfoldable pub agrees : Record → ℕ → Solutions
 agrees r zero σ = true
-agrees r (suc n) σ = eq_z (node σ n) (node σ (root_of_lem r n) +ℤ by_of r n) && agrees r n σ
+agrees r (suc n) σ = int_eq (node σ n) (node σ (root_of_lem r n) +ℤ by_of r n) && agrees r n σ
 
 unfoldable pub solves : Record → Solutions
 solves r σ = all_admitted whole 256 σ && agrees r 257 σ
@@ -60,17 +60,13 @@ shown r v = named (root_of_lem r (suc v)) (by_of r (suc v))
 abbrev pub stores : List (Slot Record) → ℕ → Meaning
 stores slots spare = means solves shown slots spare
 
-pub record Sized (r : Record) : Type 0 where
-  pub few : r.used ≤ 257
-  pub size : length r.cells ≡ 257
-
 unfoldable pub tied : Record → ℕ → ℕ → ℕ
 tied r ρ zero = 0
 tied r ρ (suc n) = cond (root_of_lem r n == ρ) 1 0 + tied r ρ n
 
 -- `near` keeps distances small: those of a class of n nodes are at most 1,000 · (n - 1)
 pub record Sound (r : Record) : Type 0 where
-  pub sized : Sized r
+  pub few : r.used ≤ 257
   pub low : (a : ℕ) → root_of_lem r a ≤ a
   pub top : (a : ℕ) → root_of_lem r (root_of_lem r a) ≡ root_of_lem r a
   pub flat : (a : ℕ) → by_of r (root_of_lem r a) ≡ pos 0

@@ -1,28 +1,19 @@
 -- Which edge a constraint says, for private contracts. Assumes nothing.
 --
---   one, two   a constraint of one or two variables
---   Reads      the edge of a constraint, or the refusal
-use Rattle.std.specs.Prelude.{◌≡◌, ℕ, ◌<◌, ◌≤◌, true, false, [], ◌∷◌, ℤ, ◌+ℤ◌, Ok, Err, Result, unsigned_abs}
+--   Reads   the edge of a constraint, or the refusal
+use Rattle.std.specs.Prelude.{◌≡◌, true, false, ◌+ℤ◌, Ok, Err, Result}
 use Rattle.bank.specs.declared.Refusal.{Refusal}
 use Rattle.bank.specs.declared.Refusal.TheVariants.{NotLive, NoSpare, BadConstraint, BadVariable, Contradiction, TextTooLong}
 use Rattle.bank.specs.Kinds.{Assignment, Condition, holds_at, well_formed, in_range}
 use Rattle.semitones.specs.declared.cells.Edge.{Edge}
-use Rattle.semitones.specs.Whole.{whole, eq_z}
+use Rattle.semitones.specs.Whole.{whole}
+use Rattle.std.specs.Ordering.{int_eq}
 use Rattle.semitones.specs.Cells.{node}
 
-abbrev pub one : ℕ → ℤ → ℕ → Condition
-one code k x = record { code = code; k = k; vars = x ∷ [] }
-
-abbrev pub two : ℕ → ℤ → ℕ → ℕ → Condition
-two code k x y = record { code = code; k = k; vars = x ∷ y ∷ [] }
-
 pub record Edge-of (c : Condition) (e : Edge) : Type 0 where
-  pub a_node : e.a < 257
-  pub b_node : e.b < 257
-  pub close : unsigned_abs e.k ≤ 1000
   pub formed : well_formed whole c ≡ true
   pub within : in_range 256 c ≡ true
-  pub holds : (σ : Assignment) → holds_at whole c σ ≡ eq_z (node σ e.a) (node σ e.b +ℤ e.k)
+  pub holds : (σ : Assignment) → holds_at whole c σ ≡ int_eq (node σ e.a) (node σ e.b +ℤ e.k)
 
 pub record Beyond (c : Condition) : Type 0 where
   pub formed : well_formed whole c ≡ true

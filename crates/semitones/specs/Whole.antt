@@ -2,15 +2,9 @@
 --
 --   whole       the kind. Code 0: x equals y; code 1: x is the number k; code 3: x is the number y plus k
 --   number_of   the number that a value is
---   eq_z         two whole numbers are one
-use Rattle.std.specs.Prelude.{ℕ, Bool, true, false, cond, List, [], ◌∷◌, ℤ, pos, negsuc, ◌+ℤ◌, Some, None, Option, ◌==◌}
+use Rattle.std.specs.Prelude.{ℕ, Bool, true, false, cond, List, [], ◌∷◌, ℤ, pos, ◌+ℤ◌, Some, None, Option, ◌==◌}
+use Rattle.std.specs.Ordering.{int_eq}
 use Rattle.bank.specs.Kinds.{Value, number, pair, Kind}
-
-abbrev pub eq_z : ℤ → ℤ → Bool
-eq_z (pos a) (pos b) = a == b
-eq_z (pos a) (negsuc b) = false
-eq_z (negsuc a) (pos b) = false
-eq_z (negsuc a) (negsuc b) = a == b
 
 abbrev pub is_number : Value → Bool
 is_number (number z) = true
@@ -25,10 +19,10 @@ abbrev pub variables_of : ℕ → Option ℕ
 variables_of code = cond (code == 0) (Some 2) (cond (code == 1) (Some 1) (cond (code == 3) (Some 2) None))
 
 abbrev pub holds_of_one : ℕ → ℤ → ℤ → Bool
-holds_of_one code k x = cond (code == 1) (eq_z x k) false
+holds_of_one code k x = cond (code == 1) (int_eq x k) false
 
 abbrev pub holds_of_two : ℕ → ℤ → ℤ → ℤ → Bool
-holds_of_two code k x y = cond (code == 0) (eq_z x y) (cond (code == 3) (eq_z x (y +ℤ k)) false)
+holds_of_two code k x y = cond (code == 0) (int_eq x y) (cond (code == 3) (int_eq x (y +ℤ k)) false)
 
 abbrev pub holding : ℕ → ℤ → List Value → Bool
 holding code k [] = false

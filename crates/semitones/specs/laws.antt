@@ -2,7 +2,6 @@
 pub mod Solves
 pub mod Bounds
 pub mod Canon
-pub mod Figures
 pub mod Names
 pub mod Kept
 pub mod Laws

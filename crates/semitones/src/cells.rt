@@ -1,3 +1,7 @@
+// What a store is made of.
+ghost use Rattle.std.specs.Prelude.{◌≡◌, ◌<◌, ◌≤◌, length, ◌-ℤ◌, unsigned_abs};
+ghost use Rattle.std.specs.Int.Signed.{mag};
+
 // Where a node lies: its class, by the class's lowest node, and how far above that one.
 #[derive(Clone, Copy)]
 pub struct Cell {
@@ -6,16 +10,43 @@ pub struct Cell {
 }
 
 // A store. Node 0 is the number 0, and node v + 1 the variable v. Only the cells below `used` count: every later node is a class of its own.
+// That `used` is at most 257 is no fact of the type, since a lent slot may hold any record.
 #[derive(Clone, Copy)]
 pub struct Record {
     pub used: u16,
     pub cells: [Cell; 257],
+    ghost full: { length cells ≡ 257 },
 }
 
-// Node a lies k above node b.
+impl Record {
+    // A record for a slot to lend: each node is a class of its own.
+    pub fn new() -> Record
+        ensures { result.used ≡ 0 }
+    {
+        Record {
+            used: 0,
+            cells: [Cell { root: 0, by: 0 }; 257],
+        }
+    }
+}
+
+// What a constraint says: node a lies k above node b.
 #[derive(Clone, Copy)]
 pub struct Edge {
     pub a: u16,
     pub b: u16,
     pub k: i32,
+    ghost nodes: { (a < 257) × (b < 257) },
+    ghost close: { unsigned_abs k ≤ 1000 },
+}
+
+impl Edge {
+    // How far the root of node b lies above the root of node a, where the nodes lie a and b above their roots.
+    pub fn gap(&self, a: i32, b: i32) -> i32
+        requires far { (mag a ≤ 257000) × (mag b ≤ 257000) }
+        ensures gap { result ≡ (a -ℤ b) -ℤ self.now.k }
+        ensures little { mag result < 1000000 }
+    {
+        a - b - self.k
+    }
 }

@@ -1,40 +1,20 @@
 // Reads the edge that a constraint says.
-ghost use Rattle.std.specs.Prelude.{◌≤◌, unsigned_abs};
+ghost use Rattle.std.specs.Prelude.{◌≡◌};
 ghost use Rattle.bank.specs.Conditions.{condition};
-ghost use Rattle.semitones.specs.Edges.{Reads, one, two};
+ghost use Rattle.semitones.specs.Edges.{Reads};
+ghost use Rattle.semitones.specs.Whole.{variables_of};
 
 use crate::cells::Edge;
 use bank::{Constraint, Refusal, Vars};
 
-fn edge_one(code: u8, k: i32, x: u16) -> Result<Edge, Refusal>
-    requires { unsigned_abs k ≤ 1000 }
-    ensures { Reads (one code k x) result }
+// How many variables a code takes, if it is known.
+pub fn arity(code: u8) -> Option<u8>
+    ensures { result ≡ variables_of code }
 {
-    if code != 1 {
-        return Err(Refusal::BadConstraint);
-    }
-    if x >= 256 {
-        return Err(Refusal::BadVariable);
-    }
-    Ok(Edge { a: x + 1, b: 0, k })
-}
-
-fn edge_two(code: u8, k: i32, x: u16, y: u16) -> Result<Edge, Refusal>
-    requires { unsigned_abs k ≤ 1000 }
-    ensures { Reads (two code k x y) result }
-{
-    if code != 0 && code != 3 {
-        return Err(Refusal::BadConstraint);
-    }
-    if x >= 256 || y >= 256 {
-        return Err(Refusal::BadVariable);
-    }
-    let a = x + 1;
-    let b = y + 1;
-    if code == 0 {
-        Ok(Edge { a, b, k: 0 })
-    } else {
-        Ok(Edge { a, b, k })
+    match code {
+        0 | 3 => Some(2),
+        1 => Some(1),
+        _ => None,
     }
 }
 
@@ -42,13 +22,20 @@ fn edge_two(code: u8, k: i32, x: u16, y: u16) -> Result<Edge, Refusal>
 pub fn edge(c: &Constraint) -> Result<Edge, Refusal>
     ensures { Reads (condition c.now) result }
 {
-    if c.k < -1000 || c.k > 1000 {
-        return Err(Refusal::BadConstraint);
-    }
-    match c.vars {
-        Vars::One(x) => edge_one(c.code, c.k, x),
-        Vars::Two(x, y) => edge_two(c.code, c.k, x, y),
-        Vars::Zero => Err(Refusal::BadConstraint),
-        Vars::Three(_, _, _) => Err(Refusal::BadConstraint),
+    c.check(arity(c.code), 256)?;
+    let k = c.k;
+    match (c.code, c.vars) {
+        (0, Vars::Two(x, y)) => Ok(Edge {
+            a: x + 1,
+            b: y + 1,
+            k: 0,
+        }),
+        (1, Vars::One(x)) => Ok(Edge { a: x + 1, b: 0, k }),
+        (3, Vars::Two(x, y)) => Ok(Edge {
+            a: x + 1,
+            b: y + 1,
+            k,
+        }),
+        _ => unreachable!(),
     }
 }

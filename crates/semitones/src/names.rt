@@ -1,37 +1,35 @@
 // Writes the text of a variable.
-ghost use Rattle.std.specs.Prelude.{◌≡◌, ℕ, ◌<◌, ◌≤◌, Some};
+ghost use Rattle.std.specs.Prelude.{◌≡◌, ℕ, ◌<◌, ◌≤◌};
 ghost use Rattle.std.specs.Int.Signed.{mag};
 ghost use Rattle.texts.specs.Pieces.{Adds};
-ghost use Rattle.semitones.specs.Cells.{by_of, shown, apart, Sized};
+ghost use Rattle.semitones.specs.Cells.{by_of, shown, apart};
 
 use crate::cells::Record;
 use crate::classes::place;
-use texts::{put_after, put_signed};
+use texts::Writer;
 
 // Adds the distance from the variable that is named, after its sign, and nothing at distance 0.
-fn put_apart(part: &mut [u8], end: Option<usize>, by: i32) -> Option<usize>
-    ensures { Adds (apart by) part.old end part.new result }
+fn put_apart(text: &mut Writer, by: i32)
+    ensures { Adds (apart by) text.old text.new }
 {
     let far = by.unsigned_abs();
     if by > 0 {
-        put_after(part, end, b'+', far)
+        text.put_after(b'+', far);
     } else if by < 0 {
-        put_after(part, end, b'-', far)
-    } else {
-        end
+        text.put_after(b'-', far);
     }
 }
 
-// Writes the text of a variable to the front of a part, unless there is no room.
-pub fn write(r: &Record, var: u16, part: &mut [u8]) -> Option<usize>
-    requires sized { Sized r.now }
+// Adds the text of a variable.
+pub fn write(r: &Record, var: u16, text: &mut Writer)
     requires within { var < 256 }
-    ensures { Adds (shown r.now var) part.old (Some 0) part.new result }
+    ensures { Adds (shown r.now var) text.old text.new }
 {
     let cell = place(r, var + 1);
     if cell.root == 0 {
-        return put_signed(part, Some(0), cell.by);
+        text.put_signed(cell.by);
+    } else {
+        text.put_after(b'_', (cell.root - 1) as u32);
+        put_apart(text, cell.by);
     }
-    let name = put_after(part, Some(0), b'_', (cell.root - 1) as u32);
-    put_apart(part, name, cell.by)
 }

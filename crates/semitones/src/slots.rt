@@ -1,34 +1,33 @@
-// Changes one of the slots in place.
-ghost use Rattle.std.specs.Prelude.{◌≡◌, ◌<◌, length, ◌≢◌};
-ghost use Rattle.semitones.specs.Joins.{Begun, Copied, SizedAt};
+// A record in the slot of a shelf. The cells that are not in use stay as they are.
+ghost use Rattle.std.specs.Prelude.{◌≡◌, ℕ};
+ghost use Rattle.semitones.specs.Whole.{whole};
+ghost use Rattle.semitones.specs.Cells.{solves, shown, Sound};
+ghost use Rattle.semitones.specs.Joins.{Same};
 
 use crate::cells::Record;
-use crate::classes::clear;
-use records::Slot;
+use records::Stored;
 
-// Begins a store in which nothing is told.
-pub fn begin(slots: &mut [Slot<Record>], at: usize)
-    requires { at < length slots.old }
-    ensures { Begun at slots.old slots.new }
-{
-    clear(&mut slots[at].record);
-    slots[at].live = true;
-}
+impl Stored for Record {
+    ghost kind = { whole };
 
-// Begins a store that has what another has: the cells in use are copied.
-pub fn copy(slots: &mut [Slot<Record>], from: usize, to: usize)
-    requires source { from < length slots.old }
-    requires target { to < length slots.old }
-    requires apart { from ≢ to }
-    requires few { SizedAt from slots.old }
-    ensures { Copied from to slots.old slots.new }
-{
-    clear(&mut slots[to].record);
-    let used = slots[from].record.used;
-    for i in 0..used as usize {
-        let cell = slots[from].record.cells[i];
-        slots[to].record.cells[i] = cell;
+    ghost variables = { 256 };
+
+    ghost solutions = { solves };
+
+    ghost text = { shown };
+
+    ghost sound = { Sound };
+
+    ghost alike = { Same };
+
+    fn clear(&mut self) {
+        self.used = 0;
     }
-    slots[to].record.used = used;
-    slots[to].live = true;
+
+    fn copy_from(&mut self, other: &Record) {
+        let used = other.used as usize;
+        // As `0..used`: behind a fact of the type, no rule covers a part lent as `..used`.
+        self.cells[0..used].copy_from_slice(&other.cells[0..used]);
+        self.used = other.used;
+    }
 }

@@ -1,47 +1,43 @@
 -- One piece after another in a part. Assumes nothing.
-use Rattle.std.proofs.Common.{◌≡◌, ℕ, ◌+◌, ◌<◌, ◌≤◌, true, false, List, [], ◌∷◌, ◌++◌, length, take, drop, set, is_some, Some, None, Option, sym, refl, ap, ◌∙◌, subst, append_assoc, arith}
-use Rattle.std.proofs.lemmas.List.{length-append, length-drop, length_push, set_at, take_at, drop_at, drop_more}
+use Rattle.std.proofs.Common.{◌≡◌, ℕ, ◌<◌, true, false, List, [], ◌∷◌, ◌++◌, length, take, drop, replicate, is_some, Some, None, Option, sym, refl, ap, ◌∙◌, subst, append_assoc, arith}
+use Rattle.std.proofs.lemmas.List.{length-append, take_at, drop_at}
 use Rattle.std.proofs.lemmas.Bool.{both_ways}
-use Rattle.texts.specs.Pieces.{Laid, Wrote, Adds}
-
--- the part keeps its length
-pub laid_length : (p t q : List ℕ) (n : ℕ) → Laid p t q n → length q ≡ length p
-laid_length p t q n L =
-    let e = ap length L.holds ∙ length-append t (drop n p) in
-    omega (arith, L.len, L.room, length-drop n p)
-
--- a byte written at the end, and an end one behind it
-pub adds_byte : (q s : List ℕ) (n b m : ℕ) → n < length q → s ≡ set q n b → m ≡ n + 1 → Adds (b ∷ []) q (Some n) s (Some m)
-adds_byte q s n b m l wrote behind = record {
-  adds = λ p t L.
-      let lt : n < length p = omega (arith, laid_length p t q n L) in
-      let rest : drop (n + 1) p ≡ drop m p = ap (λ (k : ℕ). drop k p) (sym behind) in
-      record {
-        len = behind ∙ ap (λ (k : ℕ). k + 1) L.len ∙ sym (length_push t b);
-        room = omega arith;
-        holds = wrote ∙ ap (λ (xs : List ℕ). set xs n b) (L.holds ∙ ap (λ (xs : List ℕ). t ++ xs) (drop_more p n 0 lt)) ∙ set_at t _ (drop (n + 1) p) b n (sym L.len) ∙ sym (append_assoc t (b ∷ []) (drop (n + 1) p)) ∙ ap (λ (xs : List ℕ). (t ++ b ∷ []) ++ xs) rest;
-      };
-}
-
--- there is no room for a byte
-pub adds_full : (q : List ℕ) (n b : ℕ) → length q ≤ n → Adds (b ∷ []) q (Some n) q None
-adds_full q n b l = record { adds = λ p t L. omega (arith, laid_length p t q n L, L.len, length_push t b) }
-
--- once there was no room, there is none for more
-pub adds_none : (u q s : List ℕ) → Adds u q None s None
-adds_none u q s = record { adds = λ p t h. omega (arith, length-append t u) }
-
-pub adds_lost : (u q s : List ℕ) (o : Option ℕ) → is_some o ≡ false → Adds u q o s None
-adds_lost u q s (Some n) e = absurd (both_ways true e refl)
-adds_lost u q s None e = adds_none u q s
+use Rattle.texts.specs.declared.Writer.{Writer}
+use Rattle.texts.specs.Pieces.{Laid, Wrote, Begun, Adds, Ends}
 
 -- a piece after a piece
-pub adds_then : (u v q s w : List ℕ) (a b c : Option ℕ) → Adds u q a s b → Adds v s b w c → Adds (u ++ v) q a w c
-adds_then u v q s w a b c A B = record { adds = λ p t h. subst (λ (xs : List ℕ). Wrote p xs w c) (append_assoc t u v) (B.adds p (t ++ u) (A.adds p t h)) }
+pub adds_then : (s t : List ℕ) (u v w : Writer) → Adds s u v → Adds t v w → Adds (s ++ t) u w
+adds_then s t u v w A B = record {
+  lender = B.lender ∙ A.lender;
+  length = B.length ∙ A.length;
+  adds = λ p text h. subst (λ (xs : List ℕ). Wrote p xs w.part.now w.end) (append_assoc text s t) (B.adds p (text ++ s) (A.adds p text h));
+}
 
--- a first piece, with the part read from its front
-pub laid_none : (p : List ℕ) → Laid p [] p 0
-laid_none p = record { len = refl; room = omega arith; holds = refl }
+pub adds_after : (b : ℕ) (t : List ℕ) (u v w : Writer) → Adds (b ∷ []) u v → Adds t v w → Adds (b ∷ t) u w
+adds_after b = adds_then (b ∷ [])
+
+-- once there was no room, there is none for more
+pub adds_lost : (t : List ℕ) (v : Writer) → is_some v.end ≡ false → Adds t v v
+adds_lost t v e = record { lender = refl; length = refl; adds = λ p text h. by_end v.end e p text h }
+  where
+    by_end : (o : Option ℕ) → is_some o ≡ false → (p text : List ℕ) → Wrote p text v.part.now o → Wrote p (text ++ t) v.part.now o
+    by_end (Some n) e p text h = absurd (both_ways true e refl)
+    by_end None e p text h = omega (arith, length-append text t)
+
+-- how a part ends that a text was written in from its front
+abbrev pub Written : List ℕ → List ℕ → Option ℕ → List ℕ → Type 0
+Written p t (Some n) q = Laid p t q n
+Written p t None q = (length p < length t) × (q ≡ replicate (length p) 0)
+
+pub written : (p t q : List ℕ) (r : Option ℕ) (v w : Writer) → Begun p v → Adds t v w → Ends w r q → Written p t r q
+written p t q r v w B A E = by_end r E
+  where
+    all : Wrote p t w.part.now w.end
+    all = A.adds p [] (rw (B.holds, B.end) record { len = refl; room = omega arith; holds = refl })
+
+    by_end : (r : Option ℕ) → Ends w r q → Written p t r q
+    by_end (Some n) E = rw E.1 (subst (Wrote p t w.part.now) E.0 all)
+    by_end None E = (subst (Wrote p t w.part.now) E.0 all, E.1 ∙ ap (λ (n : ℕ). replicate n 0) (A.length ∙ ap length B.holds))
 
 pub laid_front : (p t q : List ℕ) (n : ℕ) → Laid p t q n → take n q ≡ t
 laid_front p t q n L = ap (take n) L.holds ∙ take_at t (drop n p) n (sym L.len)

@@ -1,7 +1,7 @@
 -- One class put under another. Assumes nothing.
 use Rattle.std.proofs.Common.{◌≡◌, ℕ, zero, suc, ◌+◌, ◌<◌, ◌≤◌, true, false, cond, eqb, ◌⊎◌, List, [], ◌∷◌, ◌++◌, sym, refl, ap, ◌∙◌, subst, inl, inr, ⊎_elim, arith}
 use Rattle.std.proofs.lemmas.List.{length-append}
-use Rattle.std.proofs.lemmas.Bool.{eq-eqb, ne_eqb, cases_eq, cond-true, cond-false}
+use Rattle.std.proofs.lemmas.Bool.{eq-eqb, ne_eqb, cases_eq, cond-true, cond-false, cases_lt}
 use Rattle.bank.specs.Kinds.{Value, Assignment}
 use Rattle.trees.specs.declared.cells.Form.{Form}
 use Rattle.trees.specs.declared.cells.Store.{Store}
@@ -207,19 +207,27 @@ module _ (r s : Store) (S : Shaped r) (e : Equation) (es ds : List Equation) (lx
       (subst (λ (k : Form). Meeting f k h (sides f g)) (is_g ∙ ap (form_at_lem r) (sym top_b))
       (subst (λ (k : Form). Meeting f g k (sides f g)) (sym is_h) (meeting f g apart)))
 
-  pub joined_up : a < b → Moved b a h r s → Joined r s e es ds
+  joined_up : a < b → Moved b a h r s → Joined r s e es ds
   joined_up lt M = subst (λ (xs : List Equation). Joined r s e es xs) (sym now_ds)
       (joined r s S a b h M lt (omega (arith, S.low e.y ly)) top_a top_b (sides f g) es e met lx ly (inl (sym is_a, sym is_b)) nes)
 
-  pub joined_down : b < a → Moved a b h r s → Joined r s e es ds
+  joined_down : b < a → Moved a b h r s → Joined r s e es ds
   joined_down lt M = subst (λ (xs : List Equation). Joined r s e es xs) (sym now_ds)
       (joined r s S b a h M lt (omega (arith, S.low e.x lx)) top_b top_a (sides f g) es e (flip (form_of r a) (form_of r b) h (sides f g) met) lx ly (inr (sym is_a, sym is_b)) nes)
 
-  pub levels_up : flat h ≡ true → a < b → Moved b a h r s → (n x : ℕ) → deep r n x ≡ true → deep s n x ≡ true
+  levels_up : flat h ≡ true → a < b → Moved b a h r s → (n x : ℕ) → deep r n x ≡ true → deep s n x ≡ true
   levels_up k lt M = flat_deep r s S a b h M lt (omega (arith, S.low e.y ly)) top_a top_b k
 
-  pub levels_down : flat h ≡ true → b < a → Moved a b h r s → (n x : ℕ) → deep r n x ≡ true → deep s n x ≡ true
+  levels_down : flat h ≡ true → b < a → Moved a b h r s → (n x : ℕ) → deep r n x ≡ true → deep s n x ≡ true
   levels_down k lt M = flat_deep r s S b a h M lt (omega (arith, S.low e.x lx)) top_b top_a k
+
+  -- the higher class is put under the lower
+  module _ (ne : a ≡ b → ⊥) (up : a < b → Moved b a h r s) (down : b < a → Moved a b h r s) where
+    pub united : Joined r s e es ds
+    united = ⊎_elim (λ (lt : a < b). joined_up lt (up lt)) (λ (ge : b ≤ a). let lt : b < a = omega (arith, ne) in joined_down lt (down lt)) (cases_lt a b)
+
+    pub united_deep : flat h ≡ true → (n x : ℕ) → deep r n x ≡ true → deep s n x ≡ true
+    united_deep k = ⊎_elim (λ (lt : a < b). levels_up k lt (up lt)) (λ (ge : b ≤ a). let lt : b < a = omega (arith, ne) in levels_down k lt (down lt)) (cases_lt a b)
 
 -- an equation within one class
 pub joined_already : (r : Store) (e : Equation) (es : List Equation) → Shaped r → e.x < 256 → e.y < 256 → Named r.used es → root_of_lem r e.x ≡ root_of_lem r e.y → Joined r r e es es

@@ -6,7 +6,6 @@ pub mod Narrowing
 pub mod Deciding
 pub mod Blanks
 pub mod Showing
-pub mod Copying
 pub mod Aside
 pub mod Telling
-pub mod Banks
+pub mod Copying

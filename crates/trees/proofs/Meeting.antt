@@ -1,14 +1,14 @@
 -- Two forms of one class. Assumes nothing.
-use Rattle.std.proofs.Common.{◌≡◌, ℕ, ◌≤◌, true, false, List, length, ℤ, sym, refl, ap, ◌∙◌, subst, arith}
+use Rattle.std.proofs.Common.{◌≡◌, ℕ, ◌≤◌, true, false, List, length, sym, refl, ap, ◌∙◌, arith}
 use Rattle.std.proofs.lemmas.Bool.{both_ways, not-false, not-true}
+use Rattle.std.specs.Ordering.{int_eq}
+use Rattle.std.proofs.lemmas.Bool.Decides.{Decides-int_eq}
 use Rattle.bank.specs.Kinds.{Value, number, pair, Assignment}
 use Rattle.trees.specs.declared.cells.Form.{Form}
 use Rattle.trees.specs.declared.cells.Form.TheVariants.{Free, Number, Pair}
 use Rattle.trees.specs.declared.cells.Equation.{Equation}
-use Rattle.trees.specs.Kind.{same_number}
 use Rattle.trees.specs.Stores.{Fits, Holds, Formed, Named}
 use Rattle.trees.specs.Joins.{sides, clash, chosen}
-use Rattle.trees.specs.laws.Solves.{number_true, number_refl}
 
 -- both forms are the form h with the equations ds
 pub record Meeting (f g h : Form) (ds : List Equation) : Type 0 where
@@ -47,7 +47,7 @@ pub meeting : (f g : Form) → clash f g ≡ false → Meeting f g (chosen f g) 
 meeting Free g e = record { to = λ σ v p q. (q, tt); one = λ σ v p q. tt; two = λ σ v p q. p; named = λ n p q. (q, tt); short = omega arith }
 meeting (Number j) Free e = record { to = λ σ v p q. (p, tt); one = λ σ v p q. p; two = λ σ v p q. tt; named = λ n p q. (p, tt); short = omega arith }
 meeting (Number j) (Number k) e =
-    let same : j ≡ k = number_true j k (not-false (same_number j k) e) in
+    let same : j ≡ k = (Decides-int_eq j k).0 (not-false (int_eq j k) e) in
     record {
       to = λ σ v p q. (p, tt);
       one = λ σ v p q. p;
@@ -72,7 +72,7 @@ clashing (Number j) Free e σ v p q = both_ways false refl e
 clashing (Number j) (Number k) e σ v p q =
     let n : number j ≡ number k = sym p ∙ q in
     let same : j ≡ k = cc in
-    both_ways (same_number j k) (not-true (same_number j k) e) (subst (λ (z : ℤ). same_number j z ≡ true) same (number_refl j))
+    both_ways (int_eq j k) (not-true (int_eq j k) e) ((Decides-int_eq j k).1 same)
 clashing (Number j) (Pair c d) e σ v p q = let z : ◌≡◌ {A = ℕ} 0 1 = cc in omega arith
 clashing (Pair a b) Free e σ v p q = both_ways false refl e
 clashing (Pair a b) (Number k) e σ v p q = let z : ◌≡◌ {A = ℕ} 0 1 = cc in omega arith

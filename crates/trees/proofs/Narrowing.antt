@@ -7,14 +7,15 @@ use Rattle.stack.specs.Items.{top, below}
 use Rattle.trees.specs.declared.cells.Form.{Form}
 use Rattle.trees.specs.declared.cells.Store.{Store}
 use Rattle.trees.specs.declared.cells.Equation.{Equation}
-use Rattle.trees.specs.declared.cells.Task.{Task}
-use Rattle.trees.specs.declared.cells.Task.TheVariants.{Equal, Has}
+use Rattle.trees.specs.declared.tasks.Bind.{Bind}
+use Rattle.trees.specs.declared.tasks.Task.{Task}
+use Rattle.trees.specs.declared.tasks.Task.TheVariants.{Equal, Has}
 use Rattle.trees.specs.Stores.{root_of_lem, form_at_lem, form_of, Fits, solves, Solves, Left, Same, Formed, Named, Shaped, Reached, classes, classes_below}
 use Rattle.trees.specs.laws.Shapes.{formed_more, solves_alike}
 use Rattle.trees.specs.laws.Solves.{equal_true, equal_from, fits_true, fits_from, solves_true, solves_from, same_test, never_true}
 use Rattle.trees.specs.Joins.{sides, clash, chosen, Reformed, Solved}
 use Rattle.trees.specs.Marks.{Grounds}
-use Rattle.trees.specs.Tasks.{asks, Asks, Proper, With, Started, Narrows}
+use Rattle.trees.specs.Tasks.{asks, Asks, Proper, With, Started, Narrowed}
 use Rattle.trees.proofs.Meeting.{Meeting, meeting}
 
 pub same_trans : (P Q R : Assignment → Type 0) → Same P Q → Same Q R → Same P R
@@ -86,15 +87,18 @@ module _ (r s : Store) (S : Shaped r) (x : ℕ) (lx : x < 256) (h : Form) (R : R
           m.two σ (σ x) has o.1,
         )
 
--- x, whose class a has the form f, is to have the form g
-pub shaped_start : (r s : Store) (x a : ℕ) (f g h : Form) (ds : List Equation) → Shaped r → x < 256 → Formed r.used g → a ≡ root_of_lem r x → f ≡ form_at_lem r a → h ≡ chosen f g → clash f g ≡ false → ds ≡ sides f g ++ []
-    → Reformed a h r s → Started r s (Has x g) ds
-shaped_start r s x a f g h ds S lx F is_a is_f is_h apart e R₀ =
+-- a variable, whose class a has the form f, is to have another
+pub shaped_start : (r s : Store) (t : Bind) (a : ℕ) (f h : Form) (ds : List Equation) → Shaped r → Formed r.used t.form → a ≡ root_of_lem r t.x → f ≡ form_at_lem r a → h ≡ chosen f t.form → clash f t.form ≡ false
+    → ds ≡ sides f t.form ++ [] → Reformed a h r s → Started r s (Has t) ds
+shaped_start r s t a f h ds S F is_a is_f is_h apart e R₀ =
+    let x = t.x in
+    let lx = t.within in
+    let g = t.form in
     let R = subst (λ (k : ℕ). Reformed k h r s) is_a R₀ in
     let m : Meeting (form_of r x) g h (sides f g) =
     subst (λ (k : Form). Meeting k g h (sides f g)) (is_f ∙ ap (form_at_lem r) is_a) (subst (λ (k : Form). Meeting f g k (sides f g)) (sym is_h) (meeting f g apart)) in
     let nm = subst (λ (n : ℕ). Formed n h × Named n (sides f g)) (sym R.used) (m.named r.used (S.named x lx) F) in
-    subst (λ (es : List Equation). Started r s (Has x g) es) (sym (e ∙ append-nil (sides f g))) (record {
+    subst (λ (es : List Equation). Started r s (Has t) es) (sym (e ∙ append-nil (sides f g))) (record {
       shaped = reformed_shaped r s S x lx h R nm.0;
       used = R.used;
       named = nm.1;
@@ -103,16 +107,16 @@ shaped_start r s x a f g h ds S lx F is_a is_f is_h apart e R₀ =
     })
 
 pub proper_more : (m n : ℕ) (t : Task) → m ≤ n → Proper m t → Proper n t
-proper_more m n (Equal x y) l P = (omega (arith, P.0), omega (arith, P.1))
-proper_more m n (Has x f) l P = (omega (arith, P.0), formed_more m n f l P.1)
+proper_more m n (Equal t) l P = (omega (arith, P.0), omega (arith, P.1))
+proper_more m n (Has t) l P = (omega (arith, P.0), formed_more m n t.form l P.1)
 
 asks_true : (t : Task) (σ : Assignment) → asks t σ ≡ true → Asks t σ
-asks_true (Equal x y) σ e = equal_true (σ x) (σ y) e
-asks_true (Has x f) σ e = fits_true σ f (σ x) e
+asks_true (Equal t) σ e = equal_true (σ t.x) (σ t.y) e
+asks_true (Has t) σ e = fits_true σ t.form (σ t.x) e
 
 pub asks_from : (t : Task) (σ : Assignment) → Asks t σ → asks t σ ≡ true
-asks_from (Equal x y) σ e = equal_from (σ x) (σ y) e
-asks_from (Has x f) σ e = fits_from σ f (σ x) e
+asks_from (Equal t) σ e = equal_from (σ t.x) (σ t.y) e
+asks_from (Has t) σ e = fits_from σ t.form (σ t.x) e
 
 pub with_true : (r : Store) (t : Task) (σ : Assignment) → (solves r σ && asks t σ) ≡ true → With r t σ
 with_true r t σ e = let p = and_parts (solves r σ) (asks t σ) e in (solves_true r σ p.0, asks_true t σ p.1)
@@ -120,13 +124,13 @@ with_true r t σ e = let p = and_parts (solves r σ) (asks t σ) e in (solves_tr
 with_from : (r : Store) (t : Task) (σ : Assignment) → With r t σ → (solves r σ && asks t σ) ≡ true
 with_from r t σ o = and_from (solves r σ) (asks t σ) (solves_from r σ o.0) (asks_from t σ o.1)
 
-pub never_narrow : (r q s : Store) (n : ℕ) (t : Task) → Reached r q n → ((σ : Assignment) → With q t σ → ⊥) → Narrows r s t false
-never_narrow r q s n t R h σ =
+pub never_narrow : (r q : Store) (n : ℕ) (t : Task) → Reached r q n → ((σ : Assignment) → With q t σ → ⊥) → (σ : Assignment) → (solves r σ && asks t σ) ≡ false
+never_narrow r q n t R h σ =
     sym (ap (λ (b : Bool). b && asks t σ) (solves_alike r q R.alike σ)) ∙ never_true (solves q σ && asks t σ) (λ e. h σ (with_true q t σ e))
 
 -- a record that says the same, started and then solved
-pub narrows : (r q u s : Store) (n : ℕ) (t : Task) (ds : List Equation) → Reached r q n → Started q u t ds → Solved u s ds → (y : Bool) → Grounds s y → Narrows r s t y
-narrows r q u s n t ds R A B true g =
+pub narrows : (r q u s : Store) (n : ℕ) (t : Task) (ds : List Equation) → Reached r q n → Started q u t ds → Solved u s ds → Grounds s true → Narrowed r s t
+narrows r q u s n t ds R A B g =
     let all = same_trans (With q t) (Left u ds) (Solves s) A.left B.left in
     record {
       sound = record { shaped = B.shaped; levels = g };
@@ -134,4 +138,3 @@ narrows r q u s n t ds R A B true g =
       solutions = λ σ. same_test (solves s σ) (solves q σ && asks t σ) (λ e. with_from q t σ (all.from σ (solves_true s σ e))) (λ e. solves_from s σ (all.to σ (with_true q t σ e)))
           ∙ ap (λ (b : Bool). b && asks t σ) (solves_alike r q R.alike σ);
     }
-narrows r q u s n t ds R A B false g = never_narrow r q s n t R (λ σ o. g σ (B.left.to σ (A.left.to σ o)))

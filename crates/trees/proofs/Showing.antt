@@ -27,11 +27,11 @@ module _ (r : Store) (n x : ℕ) (d : deep r n x ≡ true) where
   show_pair a b e = by_form (Pair a b) e
 
 -- the sides of a pair
-pub sides_within : (r : Store) (x a b : ℕ) → Shaped r → x < 256 → form_of r x ≡ Pair a b → (a < 256) × (b < 256)
-sides_within r x a b S l e = subst (Formed 256) e (formed r S x l)
-
-pub sides_deep : (r : Store) (n x a b : ℕ) → deep r n x ≡ true → form_of r x ≡ Pair a b → (deep r (n - 1) a ≡ true) × (deep r (n - 1) b ≡ true)
-sides_deep r n x a b d e = and_parts (deep r (n - 1) a) (deep r (n - 1) b) (subst (λ (f : Form). ready (deep r (n - 1)) f ≡ true) e (deep_step r n x d).1)
+pub sides_below : (r : Store) (n x a b : ℕ) → Shaped r → x < 256 → deep r n x ≡ true → form_of r x ≡ Pair a b → ((a < 256) × (deep r (n - 1) a ≡ true)) × ((b < 256) × (deep r (n - 1) b ≡ true))
+sides_below r n x a b S l d e =
+    let within = subst (Formed 256) e (formed r S x l) in
+    let levels = and_parts (deep r (n - 1) a) (deep r (n - 1) b) (subst (λ (f : Form). ready (deep r (n - 1)) f ≡ true) e (deep_step r n x d).1) in
+    ((within.0, levels.0), (within.1, levels.1))
 
 pub small_fits : (k : ℤ) → nat_abs k ≤ 1000 → SFits w32 k
 small_fits (pos n) h = record { sfits = omega arith }

@@ -15,7 +15,7 @@ use Rattle.records.proofs.Orders.{Orderly, orderly_held}
 use Rattle.records.proofs.Places.{live_is, live_within, live_same, noted_there, written_there}
 use Rattle.records.proofs.Writes.{unchanged, kept_all, accepted}
 use Rattle.trees.specs.declared.cells.Store.{Store}
-use Rattle.trees.specs.declared.cells.Task.{Task}
+use Rattle.trees.specs.declared.tasks.Task.{Task}
 use Rattle.trees.specs.Kind.{trees}
 use Rattle.trees.specs.Stores.{solves}
 use Rattle.trees.specs.Values.{given, Sound, Kept}

@@ -6,14 +6,15 @@
 --   Moved, Reformed        one class is put under another; a class takes another form
 --   Joins                  one pending equation is done with
 --   Resolves               all of them are
-use Rattle.std.specs.Prelude.{◌≡◌, ℕ, ◌+◌, ◌*◌, ◌≤◌, Bool, true, false, cond, not, ◌&&◌, List, [], ◌∷◌, ◌++◌, length, ◌==◌, ◌≢◌}
+use Rattle.std.specs.Prelude.{◌≡◌, ℕ, ◌+◌, ◌*◌, ◌≤◌, Bool, true, false, cond, not, ◌&&◌, List, [], ◌∷◌, ◌++◌, length, Ok, Err, Result, ◌==◌, ◌≢◌}
 use Rattle.bank.specs.Kinds.{Assignment}
-use Rattle.trees.specs.Kind.{same_number}
+use Rattle.std.specs.Ordering.{int_eq}
 use Rattle.trees.specs.Stores.{root_of_lem, form_at_lem, form_of, Solves, Left, Same, Named, Shaped, classes}
 use Rattle.trees.specs.declared.cells.Form.{Form}
 use Rattle.trees.specs.declared.cells.Form.TheVariants.{Free, Number, Pair}
 use Rattle.trees.specs.declared.cells.Store.{Store}
 use Rattle.trees.specs.declared.cells.Equation.{Equation}
+use Rattle.trees.specs.declared.cells.NoSolution.{NoSolution}
 
 -- the equations of two forms of one class
 abbrev pub sides : Form → Form → List Equation
@@ -27,7 +28,7 @@ sides Free g = []
 abbrev pub clash : Form → Form → Bool
 clash Free g = false
 clash (Number j) Free = false
-clash (Number j) (Number k) = not (same_number j k)
+clash (Number j) (Number k) = not (int_eq j k)
 clash (Number j) (Pair c d) = true
 clash (Pair a b) Free = false
 clash (Pair a b) (Number k) = true
@@ -53,9 +54,9 @@ shallow r a Free = true
 shallow r a (Number k) = true
 shallow r a (Pair y z) = leaf r a y && leaf r a z
 
-abbrev pub Meets : Form → Form → List Equation → List Equation → Bool → Type 0
-Meets f g es ds true = (clash f g ≡ false) × (ds ≡ sides f g ++ es)
-Meets f g es ds false = clash f g ≡ true
+abbrev pub Meets : Form → Form → List Equation → List Equation → Result (Unit {0}) NoSolution → Type 0
+Meets f g es ds (Ok u) = (clash f g ≡ false) × (ds ≡ sides f g ++ es)
+Meets f g es ds (Err none) = clash f g ≡ true
 
 -- each root `from` is now `to`, which has the form h
 pub record Moved (from to : ℕ) (h : Form) (r s : Store) : Type 0 where
@@ -80,15 +81,15 @@ pub record Joined (r s : Store) (e : Equation) (es ds : List Equation) : Type 0 
   pub fewer : 2 * classes s + length ds ≤ 2 * classes r + length es
   pub room : classes s + length ds ≤ classes r + length es + 1
 
-abbrev pub Joins : Store → Store → Equation → List Equation → List Equation → Bool → Type 0
-Joins r s e es ds true = Joined r s e es ds
-Joins r s e es ds false = (σ : Assignment) → Left r (e ∷ es) σ → ⊥
+abbrev pub Joins : Store → Store → Equation → List Equation → List Equation → Result (Unit {0}) NoSolution → Type 0
+Joins r s e es ds (Ok u) = Joined r s e es ds
+Joins r s e es ds (Err none) = (σ : Assignment) → Left r (e ∷ es) σ → ⊥
 
 pub record Solved (r s : Store) (es : List Equation) : Type 0 where
   pub shaped : Shaped s
   pub used : s.used ≡ r.used
   pub left : Same (Left r es) (Solves s)
 
-abbrev pub Resolves : Store → Store → List Equation → Bool → Type 0
-Resolves r s es true = Solved r s es
-Resolves r s es false = (σ : Assignment) → Left r es σ → ⊥
+abbrev pub Resolves : Store → Store → List Equation → Result (Unit {0}) NoSolution → Type 0
+Resolves r s es (Ok u) = Solved r s es
+Resolves r s es (Err none) = (σ : Assignment) → Left r es σ → ⊥

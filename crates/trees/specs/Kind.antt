@@ -4,17 +4,12 @@
 --   takes     how many variables a code takes
 --   holding   code 0: x equals y; code 1: x is the number k; code 2: x is the pair of y and z
 --   trees     the kind
-use Rattle.std.specs.Prelude.{ℕ, Bool, true, false, cond, ◌&&◌, List, [], ◌∷◌, ℤ, pos, negsuc, Some, None, Option, ◌==◌}
+use Rattle.std.specs.Prelude.{ℕ, Bool, true, false, cond, ◌&&◌, List, [], ◌∷◌, ℤ, Some, None, Option, ◌==◌}
+use Rattle.std.specs.Ordering.{int_eq}
 use Rattle.bank.specs.Kinds.{Value, number, pair, Kind}
 
-abbrev pub same_number : ℤ → ℤ → Bool
-same_number (pos a) (pos b) = a == b
-same_number (pos a) (negsuc b) = false
-same_number (negsuc a) (pos b) = false
-same_number (negsuc a) (negsuc b) = a == b
-
 unfoldable pub equal : Value → Value → Bool
-equal (number a) (number b) = same_number a b
+equal (number a) (number b) = int_eq a b
 equal (number a) (pair c d) = false
 equal (pair a b) (number c) = false
 equal (pair a b) (pair c d) = equal a c && equal b d

@@ -2,20 +2,19 @@
 --
 --   means              each live slot is a store: its solutions, and the texts of its variables
 -- and, for the contracts of private functions:
---   Begun              a store begins that has met no variable
---   Copied             a slot says what another says
+--   SoundAt            the record at a place is sound
 --   ToldAside, ToldAt  a store is told, and nothing else changes but what an idle slot holds
-use Rattle.std.specs.Prelude.{◌≡◌, ℕ, ◌<◌, ◌≤◌, false, List, length, Result, slice_index_or}
+use Rattle.std.specs.Prelude.{◌≡◌, ℕ, ◌<◌, false, List, length, Result, slice_index_or}
 use Rattle.bank.specs.declared.Effect.{Effect}
 use Rattle.bank.specs.declared.Refusal.{Refusal}
 use Rattle.bank.specs.Views.{Meaning}
 use Rattle.records.specs.declared.slots.Slot.{Slot}
 use Rattle.records.specs.Slots as of_slots
 use Rattle.trees.specs.declared.cells.Store.{Store}
-use Rattle.trees.specs.Stores.{solves, Alike}
+use Rattle.trees.specs.Stores.{solves}
 use Rattle.trees.specs.Values.{given, Sound}
 use Rattle.trees.specs.Tasks.{Told}
-use Rattle.trees.specs.declared.cells.Task.{Task}
+use Rattle.trees.specs.declared.tasks.Task.{Task}
 use Rattle.trees.specs.Texts.{show}
 
 abbrev pub text_of : Store → ℕ → List ℕ
@@ -23,21 +22,6 @@ text_of r x = show (given r x)
 
 abbrev pub means : List (Slot Store) → ℕ → Meaning
 means = of_slots.means solves text_of
-
-pub record Begun (at : ℕ) (slots after : List (Slot Store)) : Type 0 where
-  pub new : Store
-  pub blank : new.used ≡ 0
-  pub is : of_slots.Written at (λ s. of_slots.begun (of_slots.holding new s)) slots after
-
--- the record at a place has its part in use
-abbrev pub FewAt : ℕ → List (Slot Store) → Type 0
-FewAt i slots = (past : Slot Store) → (slice_index_or slots i past).record.used ≤ 256
-
-pub record Copied (from to : ℕ) (slots after : List (Slot Store)) : Type 0 where
-  pub new : Store
-  pub used : (past : Slot Store) → new.used ≡ (slice_index_or slots from past).record.used
-  pub same : (past : Slot Store) → Alike (slice_index_or slots from past).record new
-  pub is : of_slots.Written to (of_slots.holding new) slots after
 
 abbrev pub SoundAt : ℕ → List (Slot Store) → Type 0
 SoundAt i slots = (past : Slot Store) → Sound (slice_index_or slots i past).record

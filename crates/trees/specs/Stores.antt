@@ -1,5 +1,6 @@
 -- What a store's record says. Assumes nothing.
 --
+--   no_cell             what stands for a cell past the last one
 --   root_of_lem, form_at_lem    the class of a variable, by its lowest variable, and the form that stands at a variable
 --   form_of             what is known of a variable's class
 --   solves              the solutions of a store
@@ -9,21 +10,25 @@
 --   Formed, Named       forms and equations speak of variables below n, and of numbers in range
 --   Shaped              what every record that is worked on keeps
 --   Alike, Reached      two records say the same, and more variables are in use
---   Put                 the root and the form at one place are written
+--   Copy                two records say the same of as many variables
 --   classes             how many classes there are
-use Rattle.std.specs.Prelude.{◌≡◌, ℕ, zero, suc, ◌+◌, ◌<◌, ◌≤◌, Bool, true, cond, ◌&&◌, List, [], ◌∷◌, ◌==◌, nat_lt, slice_index, slice_index_or, slice_set, unsigned_abs}
+use Rattle.std.specs.Prelude.{◌≡◌, ℕ, zero, suc, ◌+◌, ◌<◌, ◌≤◌, Bool, true, cond, ◌&&◌, List, [], ◌∷◌, ◌==◌, nat_lt, slice_index_or, unsigned_abs}
 use Rattle.bank.specs.Kinds.{Value, number, pair, Assignment, Solutions}
 use Rattle.trees.specs.Kind.{equal}
+use Rattle.trees.specs.declared.cells.Cell.{Cell}
 use Rattle.trees.specs.declared.cells.Form.{Form}
 use Rattle.trees.specs.declared.cells.Form.TheVariants.{Free, Number, Pair}
 use Rattle.trees.specs.declared.cells.Store.{Store}
 use Rattle.trees.specs.declared.cells.Equation.{Equation}
 
+abbrev pub no_cell : Cell
+no_cell = record { root = 0; form = Free }
+
 unfoldable pub root_of_lem : Store → ℕ → ℕ
-root_of_lem r a = cond (nat_lt a r.used) (slice_index r.roots a) a
+root_of_lem r a = cond (nat_lt a r.used) (slice_index_or r.cells a no_cell).root a
 
 unfoldable pub form_at_lem : Store → ℕ → Form
-form_at_lem r a = cond (nat_lt a r.used) (slice_index_or r.forms a Free) Free
+form_at_lem r a = cond (nat_lt a r.used) (slice_index_or r.cells a no_cell).form Free
 
 abbrev pub form_of : Store → ℕ → Form
 form_of r a = form_at_lem r (root_of_lem r a)
@@ -83,16 +88,16 @@ pub record Alike (r s : Store) : Type 0 where
   pub roots : (a : ℕ) → root_of_lem s a ≡ root_of_lem r a
   pub forms : (a : ℕ) → form_at_lem s a ≡ form_at_lem r a
 
+pub record Copy (r s : Store) : Type 0 where
+  pub alike : Alike r s
+  pub used : s.used ≡ r.used
+
 -- the variables below n are now in use, and the record says the same
 pub record Reached (r s : Store) (n : ℕ) : Type 0 where
   pub alike : Alike r s
   pub more : r.used ≤ s.used
   pub covers : n ≤ s.used
   pub within : s.used ≤ 256
-
-pub record Put (i root : ℕ) (form : Form) (r s : Store) : Type 0 where
-  pub roots : s.roots ≡ slice_set r.roots i root
-  pub forms : s.forms ≡ slice_set r.forms i form
 
 -- how many of the variables below n are their own roots
 abbrev pub classes_below : Store → ℕ → ℕ

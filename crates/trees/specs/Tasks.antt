@@ -6,7 +6,7 @@
 --   Narrows      the record has those of its solutions at which it holds, or there are none
 --   Told         what a record answers: it holds already, or is now kept, or never holds
 --   Decided      the same, or nothing is decided and nothing changes
-use Rattle.std.specs.Prelude.{◌≡◌, ℕ, ◌<◌, ◌≤◌, Bool, true, false, ◌&&◌, List, length, Some, None, Ok, Err, Option, Result}
+use Rattle.std.specs.Prelude.{◌≡◌, ℕ, ◌<◌, ◌≤◌, false, ◌&&◌, List, length, Some, None, Ok, Err, Option, Result}
 use Rattle.bank.specs.Kinds.{Assignment, Solutions}
 use Rattle.bank.specs.declared.Effect.{Effect}
 use Rattle.bank.specs.declared.Effect.TheVariants.{Kept, Narrowed as Lost}
@@ -17,20 +17,21 @@ use Rattle.trees.specs.Stores.{fits, Fits, solves, Solves, Left, Same, Named, Fo
 use Rattle.trees.specs.Values.{Sound}
 use Rattle.trees.specs.declared.cells.Store.{Store}
 use Rattle.trees.specs.declared.cells.Equation.{Equation}
-use Rattle.trees.specs.declared.cells.Task.{Task}
-use Rattle.trees.specs.declared.cells.Task.TheVariants.{Equal, Has}
+use Rattle.trees.specs.declared.cells.NoSolution.{NoSolution}
+use Rattle.trees.specs.declared.tasks.Task.{Task}
+use Rattle.trees.specs.declared.tasks.Task.TheVariants.{Equal, Has}
 
 abbrev pub asks : Task → Solutions
-asks (Equal x y) σ = equal (σ x) (σ y)
-asks (Has x f) σ = fits σ f (σ x)
+asks (Equal t) σ = equal (σ t.x) (σ t.y)
+asks (Has t) σ = fits σ t.form (σ t.x)
 
 abbrev pub Asks : Task → Assignment → Type 0
-Asks (Equal x y) σ = σ x ≡ σ y
-Asks (Has x f) σ = Fits σ f (σ x)
+Asks (Equal t) σ = σ t.x ≡ σ t.y
+Asks (Has t) σ = Fits σ t.form (σ t.x)
 
 abbrev pub Proper : ℕ → Task → Type 0
-Proper n (Equal x y) = (x < n) × (y < n)
-Proper n (Has x f) = (x < n) × Formed n f
+Proper n (Equal t) = (t.x < n) × (t.y < n)
+Proper n (Has t) = (t.x < n) × Formed n t.form
 
 abbrev pub With : Store → Task → Assignment → Type 0
 With r t σ = Solves r σ × Asks t σ
@@ -42,18 +43,18 @@ pub record Started (r s : Store) (t : Task) (ds : List Equation) : Type 0 where
   pub left : Same (With r t) (Left s ds)
   pub few : length ds ≤ 2
 
-abbrev pub Starts : Store → Store → Task → List Equation → Bool → Type 0
-Starts r s t ds true = Started r s t ds
-Starts r s t ds false = (σ : Assignment) → With r t σ → ⊥
+abbrev pub Starts : Store → Store → Task → List Equation → Result (Unit {0}) NoSolution → Type 0
+Starts r s t ds (Ok u) = Started r s t ds
+Starts r s t ds (Err none) = (σ : Assignment) → With r t σ → ⊥
 
 pub record Narrowed (r s : Store) (t : Task) : Type 0 where
   pub sound : Sound s
   pub more : r.used ≤ s.used
   pub solutions : (σ : Assignment) → solves s σ ≡ (solves r σ && asks t σ)
 
-abbrev pub Narrows : Store → Store → Task → Bool → Type 0
-Narrows r s t true = Narrowed r s t
-Narrows r s t false = (σ : Assignment) → (solves r σ && asks t σ) ≡ false
+abbrev pub Narrows : Store → Store → Task → Result (Unit {0}) NoSolution → Type 0
+Narrows r s t (Ok u) = Narrowed r s t
+Narrows r s t (Err none) = (σ : Assignment) → (solves r σ && asks t σ) ≡ false
 
 -- every solution has it already
 pub record Held (r s : Store) (t : Task) : Type 0 where

@@ -1,27 +1,42 @@
 // Reads what a record says, and takes variables into use.
 ghost use Rattle.std.specs.Prelude.{◌≡◌, ◌<◌, ◌≤◌, true};
-ghost use Rattle.trees.specs.Stores.{root_of_lem, form_at_lem, Alike, Reached};
+ghost use Rattle.trees.specs.Stores.{root_of_lem, form_at_lem, form_of, Shaped, Alike, Reached};
 
-use crate::cells::{Form, Store};
+use crate::cells::{Cell, Form, Store};
 
 // The lowest variable of a class.
+#[tactic(auto, using(crate::specs::laws::Shapes::root_used, crate::specs::laws::Shapes::root_past))]
 pub fn root_of(r: &Store, x: u16) -> u16
     requires { x < 256 }
     ensures { result ≡ root_of_lem r.now x }
 {
-    if x < r.used { r.roots[x as usize] } else { x }
+    if x < r.used {
+        r.cells[x as usize].root
+    } else {
+        x
+    }
 }
 
 // The form that stands at a variable, which is that of its class if it is the lowest there.
+#[tactic(auto, using(crate::specs::laws::Shapes::form_used, crate::specs::laws::Shapes::form_past))]
 pub fn form_at(r: &Store, x: u16) -> Form
     requires { x < 256 }
     ensures { result ≡ form_at_lem r.now x }
 {
     if x < r.used {
-        r.forms[x as usize]
+        r.cells[x as usize].form
     } else {
         Form::Free
     }
+}
+
+// What is known of a variable's class.
+pub fn known(r: &Store, x: u16) -> Form
+    requires shaped { Shaped r.now }
+    requires within { x < 256 }
+    ensures { result ≡ form_of r.now x }
+{
+    form_at(r, root_of(r, x))
 }
 
 // Takes the variables below `n` into use; each stays as it was.
@@ -30,24 +45,21 @@ pub fn reach(r: &mut Store, n: u16)
     requires bound { n ≤ 256 }
     ensures { Reached r.old r.new n }
 {
-    while r.used < n {
-        let x = r.used;
-        r.roots[x as usize] = x;
-        r.forms[x as usize] = Form::Free;
-        r.used = x + 1;
+    for x in r.used..n {
+        r.cells[x as usize] = Cell {
+            root: x,
+            form: Form::Free,
+        };
     }
+    r.used = r.used.max(n);
 }
 
-// Whether two forms are one.
-pub fn same_form(f: Form, g: Form) -> bool
-    ensures { result ≡ true → f ≡ g }
+// Whether two records say the same of a variable.
+fn agree(a: &Store, b: &Store, x: u16) -> bool
+    requires { x < 256 }
+    ensures { result ≡ true → (root_of_lem b.now x ≡ root_of_lem a.now x) × (form_at_lem b.now x ≡ form_at_lem a.now x) }
 {
-    match (f, g) {
-        (Form::Free, Form::Free) => true,
-        (Form::Number(j), Form::Number(k)) => j == k,
-        (Form::Pair(a, b), Form::Pair(c, d)) => a == c && b == d,
-        _ => false,
-    }
+    root_of(a, x) == root_of(b, x) && form_at(a, x) == form_at(b, x)
 }
 
 // Whether two records say the same, of which the second uses as many variables or more.
@@ -56,13 +68,5 @@ pub fn alike(a: &Store, b: &Store) -> bool
     requires within { b.now.used ≤ 256 }
     ensures { result ≡ true → Alike a.now b.now }
 {
-    for x in 0..b.used {
-        if root_of(a, x) != root_of(b, x) {
-            return false;
-        }
-        if !same_form(form_at(a, x), form_at(b, x)) {
-            return false;
-        }
-    }
-    true
+    (0..b.used).all(|x| agree(a, b, x))
 }

@@ -1,13 +1,14 @@
 // Joins classes, with a stack of equations that are still to be joined.
 ghost use Rattle.std.specs.Prelude.{◌≡◌, ◌+◌, ◌<◌, ◌≤◌, [], ◌++◌, length};
 ghost use Rattle.stack.specs.Items.{items, room as places};
-ghost use Rattle.trees.specs.Stores.{Shaped, Formed, Named, classes};
+ghost use Rattle.trees.specs.Stores.{Shaped, Named, classes};
 ghost use Rattle.trees.specs.Joins.{sides, clash, chosen, Meets, Moved, Joins, Resolves};
 ghost use Rattle.trees.specs.Tasks.{Proper, Starts};
-ghost use Rattle.trees.specs.declared.cells.Task.TheVariants.{Has};
+ghost use Rattle.trees.specs.declared.tasks.Task.TheVariants.{Has};
 
-use crate::cells::{Equation, Form, Store, Task};
+use crate::cells::{Equation, Form, NoSolution, Store};
 use crate::classes::{form_at, root_of};
+use crate::tasks::{Bind, Task};
 use stack::Stack;
 
 // Whether no value has both forms.
@@ -16,11 +17,8 @@ pub fn clashes(f: Form, g: Form) -> bool
 {
     match (f, g) {
         (Form::Number(j), Form::Number(k)) => j != k,
-        (Form::Number(_), Form::Pair(_, _)) => true,
-        (Form::Pair(_, _), Form::Number(_)) => true,
-        (Form::Pair(_, _), Form::Pair(_, _)) => false,
-        (Form::Free, _) => false,
-        (_, Form::Free) => false,
+        (Form::Number(_), Form::Pair(_, _)) | (Form::Pair(_, _), Form::Number(_)) => true,
+        _ => false,
     }
 }
 
@@ -30,29 +28,23 @@ fn pend(f: Form, g: Form, s: &mut Stack<Equation>)
     ensures room { places s.new ≡ places s.old }
     ensures pending { items s.new ≡ sides f g ++ items s.old }
 {
-    match (f, g) {
-        (Form::Pair(a, b), Form::Pair(c, d)) => {
-            let _ = s.push(Equation { x: b, y: d });
-            let _ = s.push(Equation { x: a, y: c });
-        }
-        (Form::Pair(_, _), Form::Number(_)) => {}
-        (Form::Pair(_, _), Form::Free) => {}
-        (Form::Number(_), _) => {}
-        (Form::Free, _) => {}
+    if let (Form::Pair(a, b), Form::Pair(c, d)) = (f, g) {
+        let _ = s.push(Equation { x: b, y: d });
+        let _ = s.push(Equation { x: a, y: c });
     }
 }
 
-// Whether a value can have both forms, with the equations that this takes now pending.
-fn meet(f: Form, g: Form, s: &mut Stack<Equation>) -> bool
+// Makes pending what it takes that a value has both forms.
+fn meet(f: Form, g: Form, s: &mut Stack<Equation>) -> Result<(), NoSolution>
     requires { length (items s.old) + 2 ≤ places s.old }
     ensures room { places s.new ≡ places s.old }
     ensures met { Meets f g (items s.old) (items s.new) result }
 {
     if clashes(f, g) {
-        return false;
+        return Err(NoSolution);
     }
     pend(f, g, s);
-    true
+    Ok(())
 }
 
 // Puts the class of `from` under `to`, which takes a form.
@@ -62,12 +54,13 @@ fn link(r: &mut Store, from: u16, to: u16, form: Form)
     requires second { to < r.old.used }
     ensures { Moved from to form r.old r.new }
 {
-    for i in 0..r.used as usize {
-        if r.roots[i] == from {
-            r.roots[i] = to;
+    let cells = &mut r.cells[0..r.used as usize];
+    for cell in cells.iter_mut() {
+        if cell.root == from {
+            cell.root = to;
         }
     }
-    r.forms[to as usize] = form;
+    r.cells[to as usize].form = form;
 }
 
 // Puts the higher of two classes under the lower, which takes a form.
@@ -91,13 +84,12 @@ pub fn choose(f: Form, g: Form) -> Form
 {
     match f {
         Form::Free => g,
-        Form::Number(_) => f,
-        Form::Pair(_, _) => f,
+        _ => f,
     }
 }
 
-// Whether an equation agrees with the record, which then has it, up to the pending equations.
-fn join(r: &mut Store, e: Equation, s: &mut Stack<Equation>) -> bool
+// Puts an equation into the record, up to the pending equations.
+fn join(r: &mut Store, e: Equation, s: &mut Stack<Equation>) -> Result<(), NoSolution>
     requires shaped { Shaped r.old }
     requires named { (e.x < r.old.used) × (e.y < r.old.used) }
     requires pending { Named r.old.used (items s.old) }
@@ -108,53 +100,46 @@ fn join(r: &mut Store, e: Equation, s: &mut Stack<Equation>) -> bool
     let a = root_of(r, e.x);
     let b = root_of(r, e.y);
     if a == b {
-        return true;
+        return Ok(());
     }
     let f = form_at(r, a);
     let g = form_at(r, b);
-    if !meet(f, g, s) {
-        return false;
-    }
+    meet(f, g, s)?;
     unite(r, a, b, choose(f, g));
-    true
+    Ok(())
 }
 
 // Joins all that is pending.
-pub fn resolve(r: &mut Store, s: &mut Stack<Equation>) -> bool
+pub fn resolve(r: &mut Store, s: &mut Stack<Equation>) -> Result<(), NoSolution>
     requires shaped { Shaped r.old }
     requires pending { Named r.old.used (items s.old) }
     requires room { classes r.old + length (items s.old) < places s.old }
     ensures { Resolves r.old r.new (items s.old) result }
 {
     while let Some(e) = s.pop() {
-        if !join(r, e, s) {
-            return false;
-        }
+        join(r, e, s)?;
     }
-    true
+    Ok(())
 }
 
-// Whether the class of a variable can have a form, which it then has, up to the pending equations.
-fn shape(r: &mut Store, x: u16, form: Form, s: &mut Stack<Equation>) -> bool
+// Gives the class of a variable a form, up to the pending equations.
+fn shape(r: &mut Store, t: Bind, s: &mut Stack<Equation>) -> Result<(), NoSolution>
     requires shaped { Shaped r.old }
-    requires within { x < r.old.used }
-    requires formed { Formed r.old.used form }
+    requires proper { Proper r.old.used (Has t) }
     requires empty { items s.old ≡ [] }
     requires room { 2 ≤ places s.old }
     ensures room { places s.new ≡ places s.old }
-    ensures started { Starts r.old r.new (Has x form) (items s.new) result }
+    ensures started { Starts r.old r.new (Has t) (items s.new) result }
 {
-    let a = root_of(r, x);
+    let a = root_of(r, t.x);
     let f = form_at(r, a);
-    if !meet(f, form, s) {
-        return false;
-    }
-    r.forms[a as usize] = choose(f, form);
-    true
+    meet(f, t.form, s)?;
+    r.cells[a as usize].form = choose(f, t.form);
+    Ok(())
 }
 
-// Whether a record can do what is asked, which it then does, up to the pending equations.
-pub fn start(r: &mut Store, t: Task, s: &mut Stack<Equation>) -> bool
+// Makes a record do what is asked, up to the pending equations.
+pub fn start(r: &mut Store, t: Task, s: &mut Stack<Equation>) -> Result<(), NoSolution>
     requires shaped { Shaped r.old }
     requires proper { Proper r.old.used t }
     requires empty { items s.old ≡ [] }
@@ -163,10 +148,10 @@ pub fn start(r: &mut Store, t: Task, s: &mut Stack<Equation>) -> bool
     ensures started { Starts r.old r.new t (items s.new) result }
 {
     match t {
-        Task::Equal(x, y) => {
-            let _ = s.push(Equation { x, y });
-            true
+        Task::Equal(t) => {
+            let _ = s.push(Equation { x: t.x, y: t.y });
+            Ok(())
         }
-        Task::Has(x, form) => shape(r, x, form, s),
+        Task::Has(t) => shape(r, t, s),
     }
 }

@@ -5,7 +5,7 @@ ghost use Rattle.trees.specs.Values.{ready};
 ghost use Rattle.trees.specs.Marks.{marked, Marked, Step, Passed, Grounds};
 
 use crate::cells::{Form, Store};
-use crate::classes::{form_at, root_of};
+use crate::classes::known;
 
 // Whether the sides of a variable's form are marked.
 fn is_ready(r: &Store, marks: &[bool], x: u16) -> bool
@@ -14,10 +14,8 @@ fn is_ready(r: &Store, marks: &[bool], x: u16) -> bool
     requires within { x < r.now.used }
     ensures { result ≡ ready (marked marks.now) (form_of r.now x) }
 {
-    let form = form_at(r, root_of(r, x));
-    match form {
-        Form::Free => true,
-        Form::Number(_) => true,
+    match known(r, x) {
+        Form::Free | Form::Number(_) => true,
         Form::Pair(a, b) => marks[a as usize] && marks[b as usize],
     }
 }
@@ -29,15 +27,11 @@ fn mark(r: &Store, marks: &mut [bool], x: u16, n: usize) -> usize
     requires within { x < r.now.used }
     ensures { Step r.now marks.old marks.new x n result }
 {
-    if marks[x as usize] {
+    if marks[x as usize] || !is_ready(r, marks, x) {
         return n;
     }
-    if is_ready(r, marks, x) {
-        marks[x as usize] = true;
-        n + 1
-    } else {
-        n
-    }
+    marks[x as usize] = true;
+    n + 1
 }
 
 // Marks what is ready: how many are then marked. The parts of a pair are mostly younger than the pair, so the highest variable comes first.

@@ -4,23 +4,20 @@ ghost use Rattle.std.specs.Prelude.{◌≡◌, ◌<◌};
 ghost use Rattle.trees.specs.Stores.{Formed, Shaped};
 ghost use Rattle.trees.specs.Values.{Sound};
 ghost use Rattle.trees.specs.Joins.{flat, leaf, shallow};
-ghost use Rattle.trees.specs.Tasks.{Proper, Told, Decided};
-ghost use Rattle.trees.specs.declared.cells.Task.TheVariants.{Has, Equal};
+ghost use Rattle.trees.specs.Tasks.{Told, Decided};
+ghost use Rattle.trees.specs.declared.tasks.Task.TheVariants.{Has, Equal};
 
-use crate::cells::{Form, Store, Task};
-use crate::classes::{alike, form_at, reach, root_of, same_form};
+use crate::cells::{Form, Store};
+use crate::classes::{alike, form_at, reach, root_of};
 use crate::joins::{choose, clashes, unite};
 use crate::store::{narrow, span};
+use crate::tasks::{Bind, Merge, Task};
 use bank::{Effect, Refusal};
 
 fn is_flat(f: Form) -> bool
     ensures { result ≡ flat f }
 {
-    match f {
-        Form::Free => true,
-        Form::Number(_) => true,
-        Form::Pair(_, _) => false,
-    }
+    !matches!(f, Form::Pair(_, _))
 }
 
 // Whether a variable is in another class than that of `a`, and nothing lies below it.
@@ -40,42 +37,41 @@ fn is_shallow(r: &Store, a: u16, form: Form) -> bool
     ensures { result ≡ shallow r.now a form }
 {
     match form {
-        Form::Free => true,
-        Form::Number(_) => true,
+        Form::Free | Form::Number(_) => true,
         Form::Pair(y, z) => is_leaf(r, a, y) && is_leaf(r, a, z),
     }
 }
 
 // Tells that a variable has a form, which a class of which nothing is known takes as it stands.
-fn decide_form(r: &mut Store, x: u16, form: Form) -> Option<Result<Effect, Refusal>>
-    requires sound { Sound r.old }
-    requires proper { Proper 256 (Has x form) }
-    ensures { Decided r.old r.new (Has x form) result }
+#[tactic(auto, using(crate::proofs::Deciding::form_held, crate::proofs::Deciding::form_refused))]
+fn decide_form(r: &mut Store, t: Bind) -> Option<Result<Effect, Refusal>>
+    requires { Sound r.old }
+    ensures { Decided r.old r.new (Has t) result }
 {
-    let a = root_of(r, x);
+    let a = root_of(r, t.x);
     let f = form_at(r, a);
-    if clashes(f, form) {
+    if clashes(f, t.form) {
         return Some(Err(Refusal::Contradiction));
     }
-    if same_form(f, form) {
+    if f == t.form {
         return Some(Ok(Effect::Kept));
     }
-    if same_form(f, Form::Free) && is_shallow(r, a, form) {
-        reach(r, span(Task::Has(x, form)));
-        r.forms[a as usize] = form;
+    if f == Form::Free && is_shallow(r, a, t.form) {
+        reach(r, span(Task::Has(t)));
+        r.cells[a as usize].form = t.form;
         return Some(Ok(Effect::Narrowed));
     }
     None
 }
 
 // Tells that two variables are equal. Two classes that are no pairs are joined as they stand.
-fn decide_equal(r: &mut Store, x: u16, y: u16) -> Option<Result<Effect, Refusal>>
-    requires sound { Sound r.old }
-    requires proper { Proper 256 (Equal x y) }
-    ensures { Decided r.old r.new (Equal x y) result }
+#[tactic(auto, using(crate::proofs::Deciding::equal_held, crate::proofs::Deciding::equal_refused))]
+fn decide_equal(r: &mut Store, t: Merge) -> Option<Result<Effect, Refusal>>
+    requires { Sound r.old }
+    ensures { Decided r.old r.new (Equal t) result }
 {
-    let a = root_of(r, x);
-    let b = root_of(r, y);
+    let a = root_of(r, t.x);
+    let b = root_of(r, t.y);
     if a == b {
         return Some(Ok(Effect::Kept));
     }
@@ -85,7 +81,7 @@ fn decide_equal(r: &mut Store, x: u16, y: u16) -> Option<Result<Effect, Refusal>
         return Some(Err(Refusal::Contradiction));
     }
     if is_flat(f) && is_flat(g) {
-        reach(r, span(Task::Equal(x, y)));
+        reach(r, span(Task::Equal(t)));
         unite(r, a, b, choose(f, g));
         return Some(Ok(Effect::Narrowed));
     }
@@ -94,26 +90,22 @@ fn decide_equal(r: &mut Store, x: u16, y: u16) -> Option<Result<Effect, Refusal>
 
 // Tells a store what a constraint asks, unless more than the classes that it names has to be looked at.
 pub fn decide(r: &mut Store, t: Task) -> Option<Result<Effect, Refusal>>
-    requires sound { Sound r.old }
-    requires proper { Proper 256 t }
+    requires { Sound r.old }
     ensures { Decided r.old r.new t result }
 {
     match t {
-        Task::Equal(x, y) => decide_equal(r, x, y),
-        Task::Has(x, form) => decide_form(r, x, form),
+        Task::Equal(t) => decide_equal(r, t),
+        Task::Has(t) => decide_form(r, t),
     }
 }
 
 // Tells a store by narrowing a copy of all of it.
 pub fn tell_copied(r: &mut Store, t: Task) -> Result<Effect, Refusal>
-    requires sound { Sound r.old }
-    requires proper { Proper 256 t }
+    requires { Sound r.old }
     ensures { Told r.old r.new t result }
 {
     let mut narrowed = *r;
-    if !narrow(&mut narrowed, t) {
-        return Err(Refusal::Contradiction);
-    }
+    narrow(&mut narrowed, t)?;
     if alike(r, &narrowed) {
         return Ok(Effect::Kept);
     }

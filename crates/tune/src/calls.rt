@@ -1,30 +1,22 @@
-// The calls of a bank, each with a line on what it answered.
+// The calls of a bank, each with a line on what it answered. The lines are this program's own: those of other programs have other words.
 use bank::{Bank, Constraint, Effect, Refusal, Vars};
 use std::io;
 
-// The number of no store.
-const NONE: u16 = u16::MAX;
-
-// The store that was made, or NONE.
-fn made(rt: &HostRuntime, call: &str, answer: Result<u16, Refusal>) -> io::Result<u16> {
+// The store that was made, if one was.
+fn made(rt: &HostRuntime, call: &str, answer: Result<u16, Refusal>) -> io::Result<Option<u16>> {
     match answer {
-        Ok(store) => {
-            println!(rt; "{call}: {store}")?;
-            Ok(store)
-        }
-        Err(refusal) => {
-            println!(rt; "{call}: refused {}", refusal.number())?;
-            Ok(NONE)
-        }
+        Ok(store) => println!(rt; "{call}: {store}")?,
+        Err(refusal) => println!(rt; "{call}: refused {}", refusal.number())?,
     }
+    Ok(answer.ok())
 }
 
-pub fn open<B: Bank>(rt: &HostRuntime, b: &mut B) -> io::Result<u16> {
+pub fn open<B: Bank>(rt: &HostRuntime, b: &mut B) -> io::Result<Option<u16>> {
     let answer = b.open();
     made(rt, "open", answer)
 }
 
-pub fn fork<B: Bank>(rt: &HostRuntime, b: &mut B, store: u16) -> io::Result<u16> {
+pub fn fork<B: Bank>(rt: &HostRuntime, b: &mut B, store: u16) -> io::Result<Option<u16>> {
     let answer = b.fork(store);
     made(rt, "fork", answer)
 }

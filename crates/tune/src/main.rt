@@ -74,22 +74,33 @@ fn refusals<B: Bank>(rt: &HostRuntime, b: &mut B, store: u16) -> io::Result<()> 
     Ok(())
 }
 
+// What is asked of a store that has ended is refused.
+fn ended<B: Bank>(rt: &HostRuntime, b: &mut B, store: u16) -> io::Result<()> {
+    release(rt, b, store)?;
+    release(rt, b, store)?;
+    tell(rt, b, store, &equal(0, 1))?;
+    print(rt, b, store, 0)?;
+    let _ = fork(rt, b, store)?;
+    Ok(())
+}
+
 fn scenario<B: Bank>(rt: &HostRuntime, b: &mut B) -> io::Result<()> {
     println!(rt; "spare {}", b.spare())?;
-    let first = open(rt, b)?;
+    let Some(first) = open(rt, b)? else {
+        return Ok(());
+    };
     octave(rt, b, first)?;
-    let second = fork(rt, b, first)?;
-    numbers(rt, b, second)?;
+    if let Some(second) = fork(rt, b, first)? {
+        numbers(rt, b, second)?;
+    }
     print(rt, b, first, 1)?;
     refusals(rt, b, first)?;
     let third = open(rt, b)?;
-    open(rt, b)?;
-    fork(rt, b, first)?;
-    release(rt, b, third)?;
-    release(rt, b, third)?;
-    tell(rt, b, third, &equal(0, 1))?;
-    print(rt, b, third, 0)?;
-    fork(rt, b, third)?;
+    let _ = open(rt, b)?;
+    let _ = fork(rt, b, first)?;
+    if let Some(third) = third {
+        ended(rt, b, third)?;
+    }
     println!(rt; "spare {}", b.spare())
 }
 

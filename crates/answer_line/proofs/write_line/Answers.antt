@@ -1,29 +1,24 @@
--- The line grows by a field, or is refused.
-use Rattle.std.proofs.Common.{arith}
-use Rattle.answer_line.proofs.Laying.{line_put, line_written, line_refused}
+-- The line stands, or was cleared.
+use Rattle.std.proofs.Common.{◌++◌, drop, replicate, sym, ap, ◌∙◌, arith}
+use Rattle.std.proofs.lemmas.List.{length-take-le}
+use Rattle.answer_line.proofs.Laying.{line_kept, line_cleared}
 use Rattle.answer_line.proofs.Telling.{fields_tell}
 use Rattle.answer_line.proofs.write_line.Goals as goal
 
-pub put_field-requires : goal.put_field-requires
-put_field-requires g c = record { live = c.requires.live; known = omega arith; room = omega arith; within = c.loop-var.invariant.within }
+pub slice_bounds-fill-end-then-is_err : goal.slice_bounds-fill-end-then-is_err
+slice_bounds-fill-end-then-is_err g c = omega (arith, length-take-le 1024 c.put_fields-end.new.buffer (omega arith))
 
-pub loop-var-preserved : goal.loop-var-preserved
-loop-var-preserved g c =
-    line_put ((g.B.Bank.view.meaning c.args.bank.now).text c.args.store) c.loop-var.var _ _ _ c.loop-var.buffer _
-    c.loop-var.invariant c.in-Ok.ensures
-
-pub returns-in-Err : goal.returns-in-Err
-returns-in-Err g c = record {
-  writes =
-      line_refused ((g.B.Bank.view.meaning c.args.bank.now).text c.args.store) c.loop-var.var _ c.loop-var.pos c.args.buffer.now
-      c.loop-var.buffer c.put_field.new.buffer c.clear_line.new.buffer _ c.loop-var-test.true c.loop-var.invariant c.in-Err.ensures c.clear_line.ensures;
+pub returns-then-is_err : goal.returns-then-is_err
+returns-then-is_err g c = record {
+  writes = line_cleared (g.B.Bank.view.meaning c.args.bank.now) c.args.store c.args.count c.args.buffer.now c.put_fields-end.new.buffer _ _
+      c.put_fields-end.ensures (sym c.if-is_err.ensures.value)
+      (ap (λ t. t ++ drop 1024 c.put_fields-end.new.buffer)
+      (c.fill.ensures.after (λ y e. e) ∙ ap (λ n. replicate n 0) (length-take-le 1024 c.put_fields-end.new.buffer (omega arith))));
   tells = fields_tell g.B.Bank.view c.args.bank.now _ _ c.requires.live (omega (arith, g.B.Bank.view.laws.wide));
 }
 
-pub returns : goal.returns
-returns g c = record {
-  writes =
-      line_written ((g.B.Bank.view.meaning c.args.bank.now).text c.args.store) c.loop-var.var _ _ c.args.buffer.now c.loop-var.buffer
-      (omega arith) c.loop-var.invariant;
+pub returns-else-is_err : goal.returns-else-is_err
+returns-else-is_err g c = record {
+  writes = line_kept (g.B.Bank.view.meaning c.args.bank.now) c.args.store c.args.count c.args.buffer.now _ _ c.put_fields-end.ensures (sym c.if-is_err.ensures.value);
   tells = fields_tell g.B.Bank.view c.args.bank.now _ _ c.requires.live (omega (arith, g.B.Bank.view.laws.wide));
 }

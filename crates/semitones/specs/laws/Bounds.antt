@@ -34,6 +34,6 @@ far r S a = ⊎_elim
     bounded (by_of r a) (by_of r ρ) (tied r ρ 257) (tied r (root_of_lem r ρ) 257) (S.flat a) (tied_few r ρ 257) (tied_few r (root_of_lem r ρ) 257)
     (S.near a ρ h l (sym (S.top a))) (S.near ρ a l h (S.top a)))
     (λ h.
-    let none : by_of r a ≡ pos 0 = ap (λ (c : Cell). c.by) (cell_out r a (omega (arith, S.sized.few))) in
+    let none : by_of r a ≡ pos 0 = ap (λ (c : Cell). c.by) (cell_out r a (omega (arith, S.few))) in
     subst (λ (z : ℤ). mag z ≤ 257000) (sym none) (omega arith))
     (cases_lt a 257)

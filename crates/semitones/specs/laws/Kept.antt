@@ -12,7 +12,7 @@ use Rattle.semitones.specs.Cells.{Sound}
 
 sound_prop : (r : Record) → IsProp (Sound r)
 sound_prop r p q = λ i. record {
-  sized = record { few = le_prop p.sized.few q.sized.few i; size = ≡_prop coded_ℕ _ _ p.sized.size q.sized.size i };
+  few = le_prop p.few q.few i;
   low = λ a. le_prop (p.low a) (q.low a) i;
   top = λ a. ≡_prop coded_ℕ _ _ (p.top a) (q.top a) i;
   flat = λ a. ≡_prop coded_ℤ _ _ (p.flat a) (q.flat a) i;

@@ -1,7 +1,8 @@
 -- The laws of this bank. Assumes nothing.
-use Rattle.std.specs.Prelude.{◌≡◌, ℕ, suc, ◌^◌, ◌<◌, ◌≤◌, true, false, List, [], length, ℤ, pos, ◌+ℤ◌, ◌≢◌, slice_index, slice_index_or, refl}
+use Rattle.std.specs.Prelude.{◌≡◌, ℕ, suc, ◌^◌, ◌<◌, ◌≤◌, true, false, List, length, replicate, ℤ, pos, ◌+ℤ◌, ◌≢◌, slice_index, slice_index_or, refl}
 use Rattle.std.proofs.Math.Path.{sym, ap}
 use Rattle.std.proofs.Common.{subst, ◌∙◌, arith, lit≤}
+use Rattle.std.proofs.lemmas.List.{length-replicate}
 use Rattle.std.proofs.Math.IntN.{+ℤ_idr}
 use Rattle.std.specs.Int.Signed.{mag}
 use Rattle.bank.specs.Kinds.{number, Assignment}
@@ -11,11 +12,10 @@ use Rattle.records.specs.Slots.{Keeps, live_at}
 use Rattle.records.proofs.Places.{live_within, noted_is}
 use Rattle.semitones.specs.declared.cells.Record.{Record}
 use Rattle.semitones.specs.Whole.{whole, number_of}
-use Rattle.semitones.specs.Cells.{node, root_of_lem, by_of, solves, named, shown, stores, Sound}
+use Rattle.semitones.specs.Cells.{node, no_cell, root_of_lem, by_of, solves, named, shown, stores, Sound}
 use Rattle.semitones.specs.laws.Solves.{solves_at, solves_number}
 use Rattle.semitones.specs.laws.Bounds.{far}
 use Rattle.semitones.specs.laws.Canon.{one_root, one_by, same_root, same_by}
-use Rattle.semitones.specs.laws.Figures.{plain_at}
 use Rattle.semitones.specs.laws.Names.{same_named, some_named, plain_named}
 use Rattle.semitones.specs.laws.Kept.{sound_out}
 
@@ -53,24 +53,24 @@ module _ (r : Record) (S : Sound r) where
 
   plain_shown : (x : ℕ) → x < 256 → (i : ℕ) → i < length (shown r x) → (slice_index (shown r x) i ≢ 44) × (slice_index (shown r x) i ≢ 10)
   unfolding shown
-  plain_shown x h i l = plain_at (named (root_of_lem r (suc x)) (by_of r (suc x))) i (plain_named (root_of_lem r (suc x)) (by_of r (suc x)) (low x h) (small (suc x))) l
+  plain_shown x h i l = plain_named (root_of_lem r (suc x)) (by_of r (suc x)) (low x h) (small (suc x)) i 0 l
 
 -- what stands past the last slot does not matter
 abbrev pub no_slot : Slot Record
-no_slot = record { live = false; «record» = record { used = 0; cells = [] } }
+no_slot = record { live = false; «record» = record { used = 0; cells = replicate 257 no_cell; full = length-replicate 257 no_cell } }
 
 abbrev pub record_at : List (Slot Record) → ℕ → Record
 record_at slots s = (slice_index_or slots s no_slot).record
 
-module _ (slots : List (Slot Record)) (spare : ℕ) (s : ℕ) (l : live_at slots s ≡ true) where
-  pub solutions_at : (σ : Assignment) → (stores slots spare).solutions s σ ≡ solves (record_at slots s) σ
-  solutions_at σ = ap (λ f. f σ) (noted_is slots s _ solves no_slot (live_within slots s l))
+module _ (slots : List (Slot Record)) (s : ℕ) (l : live_at slots s ≡ true) (past : Slot Record) where
+  pub solutions_at : (spare : ℕ) (σ : Assignment) → (stores slots spare).solutions s σ ≡ solves (slice_index_or slots s past).record σ
+  solutions_at spare σ = ap (λ f. f σ) (noted_is slots s _ solves past (live_within slots s l))
 
-  pub text_at : (x : ℕ) → (stores slots spare).text s x ≡ shown (record_at slots s) x
-  text_at x = ap (λ f. f x) (noted_is slots s _ shown no_slot (live_within slots s l))
+  pub text_at : (spare x : ℕ) → (stores slots spare).text s x ≡ shown (slice_index_or slots s past).record x
+  text_at spare x = ap (λ f. f x) (noted_is slots s _ shown past (live_within slots s l))
 
-pub sound_at : (slots : List (Slot Record)) → Keeps (λ r. ∥ Sound r ∥₁) slots → (s : ℕ) → live_at slots s ≡ true → Sound (record_at slots s)
-sound_at slots kept s l = sound_out (record_at slots s) (kept s no_slot l)
+  pub sound_at : Keeps (λ r. ∥ Sound r ∥₁) slots → Sound (slice_index_or slots s past).record
+  sound_at kept = sound_out (slice_index_or slots s past).record (kept s past l)
 
 module _ {S : Type 0} (slots : S → List (Slot Record)) (spare : S → ℕ) (kept : (b : S) → Keeps (λ r. ∥ Sound r ∥₁) (slots b)) where
   pub laws : Laws {S = S} 256 whole (λ b. stores (slots b) (spare b))
@@ -79,19 +79,19 @@ module _ {S : Type 0} (slots : S → List (Slot Record)) (spare : S → ℕ) (ke
     narrow = lit≤ tt;
     some_value = (number (pos 0), refl);
     same_texts = λ b c s t x l m h e.
-        text_at (slots b) (spare b) s l x
-        ∙ same_shown (record_at (slots b) s) (record_at (slots c) t) (sound_at (slots b) (kept b) s l) (sound_at (slots c) (kept c) t m)
-        (λ σ. sym (solutions_at (slots b) (spare b) s l σ) ∙ e σ ∙ solutions_at (slots c) (spare c) t m σ) x h
-        ∙ sym (text_at (slots c) (spare c) t m x);
+        text_at (slots b) s l no_slot (spare b) x
+        ∙ same_shown (record_at (slots b) s) (record_at (slots c) t) (sound_at (slots b) s l no_slot (kept b)) (sound_at (slots c) t m no_slot (kept c))
+        (λ σ. sym (solutions_at (slots b) s l no_slot (spare b) σ) ∙ e σ ∙ solutions_at (slots c) t m no_slot (spare c) σ) x h
+        ∙ sym (text_at (slots c) t m no_slot (spare c) x);
     alike = λ b s x y l h k e σ t.
-        alike_values (record_at (slots b) s) (sound_at (slots b) (kept b) s l) x y h k (sym (text_at (slots b) (spare b) s l x) ∙ e ∙ text_at (slots b) (spare b) s l y) σ
-        (sym (solutions_at (slots b) (spare b) s l σ) ∙ t);
+        alike_values (record_at (slots b) s) (sound_at (slots b) s l no_slot (kept b)) x y h k (sym (text_at (slots b) s l no_slot (spare b) x) ∙ e ∙ text_at (slots b) s l no_slot (spare b) y) σ
+        (sym (solutions_at (slots b) s l no_slot (spare b) σ) ∙ t);
     alike_back = λ b s x y l h k e.
-        text_at (slots b) (spare b) s l x
-        ∙ alike_texts (record_at (slots b) s) (sound_at (slots b) (kept b) s l) x y (λ σ t. e σ (solutions_at (slots b) (spare b) s l σ ∙ t))
-        ∙ sym (text_at (slots b) (spare b) s l y);
-    some_byte = λ b s x l h. subst (λ (text : List ℕ). 1 ≤ length text) (sym (text_at (slots b) (spare b) s l x)) (some_shown (record_at (slots b) s) (sound_at (slots b) (kept b) s l) x);
+        text_at (slots b) s l no_slot (spare b) x
+        ∙ alike_texts (record_at (slots b) s) (sound_at (slots b) s l no_slot (kept b)) x y (λ σ t. e σ (solutions_at (slots b) s l no_slot (spare b) σ ∙ t))
+        ∙ sym (text_at (slots b) s l no_slot (spare b) y);
+    some_byte = λ b s x l h. subst (λ (text : List ℕ). 1 ≤ length text) (sym (text_at (slots b) s l no_slot (spare b) x)) (some_shown (record_at (slots b) s) (sound_at (slots b) s l no_slot (kept b)) x);
     plain = λ b s x l h.
-        subst (λ (text : List ℕ). (i : ℕ) → i < length text → (slice_index text i ≢ 44) × (slice_index text i ≢ 10)) (sym (text_at (slots b) (spare b) s l x))
-        (plain_shown (record_at (slots b) s) (sound_at (slots b) (kept b) s l) x h);
+        subst (λ (text : List ℕ). (i : ℕ) → i < length text → (slice_index text i ≢ 44) × (slice_index text i ≢ 10)) (sym (text_at (slots b) s l no_slot (spare b) x))
+        (plain_shown (record_at (slots b) s) (sound_at (slots b) s l no_slot (kept b)) x h);
   }

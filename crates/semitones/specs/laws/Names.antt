@@ -1,18 +1,21 @@
 -- A text says which root and which distance it is of, and is plain. Assumes nothing.
-use Rattle.std.specs.Prelude.{◌≡◌, ℕ, zero, suc, ◌^◌, ◌<◌, ◌≤◌, List, ◌++◌, length, ℤ, pos, negsuc, decimal, slice_index, refl}
-use Rattle.std.proofs.Common.{ap, arith}
+use Rattle.std.specs.Prelude.{◌≡◌, ℕ, zero, suc, ◌^◌, ◌<◌, ◌≤◌, List, [], ◌++◌, length, ℤ, pos, negsuc, decimal, slice_index, refl}
+use Rattle.std.proofs.Common.{ap, subst, arith}
 use Rattle.std.specs.Int.Signed.{mag}
 use Rattle.std.specs.Fmt.{signed_decimal}
-use Rattle.std.proofs.lemmas.Fmt.{signed_decimal_injective, decimal_injective}
+use Rattle.std.specs.List.{All}
+use Rattle.std.proofs.lemmas.Fmt.{signed_decimal_injective, decimal_injective, decimal_nonempty}
+use Rattle.std.proofs.lemmas.List.{append-nil}
+use Rattle.std.proofs.lemmas.List.Elements.{All-nil, All-cons, All-append}
 use Rattle.semitones.specs.Cells.{apart, named}
-use Rattle.semitones.specs.laws.Figures.{Stop, figures, head_eq, tail_eq, decimal_split, first_figure, Plain, plain_both, plain_figures}
+use Rattle.texts.proofs.Figures.{Stop, Plain, head_eq, tail_eq, decimal_split, first_digit, plain_decimal}
 
 first : List ℕ → ℕ
 first xs = slice_index xs 0
 
 first_signed : (z : ℤ) → mag z < 2 ^ 32 → first (signed_decimal z) ≤ 57
 unfolding first
-first_signed (pos n) h = let f = figures n (omega arith) in first_figure (decimal n) f.0 f.1
+first_signed (pos n) h = subst (λ (xs : List ℕ). first xs ≤ 57) (append-nil (decimal n)) (first_digit n [] (omega arith)).1
 first_signed (negsuc n) h = omega arith
 
 stop_apart : (z : ℤ) → Stop (apart z)
@@ -45,19 +48,16 @@ same_named (suc u) (suc v) y z a b h k e =
     (ap suc r.0, same_apart y z h k r.1)
 
 pub some_named : (ρ : ℕ) (z : ℤ) → mag z < 2 ^ 32 → 1 ≤ length (named ρ z)
-some_named zero (pos n) h = omega (arith, (figures n (omega arith)).1)
+some_named zero (pos n) h = decimal_nonempty n (omega arith)
 some_named zero (negsuc n) h = omega arith
 some_named (suc v) z h = omega arith
 
-plain_decimal : (n : ℕ) → n < 2 ^ 64 → Plain (decimal n)
-plain_decimal n h = plain_figures (decimal n) (figures n h).0
+plain_apart : (z : ℤ) → mag z < 2 ^ 32 → All Plain (apart z)
+plain_apart (pos zero) h = All-nil Plain
+plain_apart (pos (suc n)) h = All-cons Plain 43 (decimal (suc n)) (search arith) (plain_decimal (suc n) (omega arith))
+plain_apart (negsuc n) h = All-cons Plain 45 (decimal (suc n)) (search arith) (plain_decimal (suc n) (omega arith))
 
-plain_apart : (z : ℤ) → mag z < 2 ^ 32 → Plain (apart z)
-plain_apart (pos zero) h = tt
-plain_apart (pos (suc n)) h = (((λ e. omega arith), (λ e. omega arith)), plain_decimal (suc n) (omega arith))
-plain_apart (negsuc n) h = (((λ e. omega arith), (λ e. omega arith)), plain_decimal (suc n) (omega arith))
-
-pub plain_named : (ρ : ℕ) (z : ℤ) → ρ < 2 ^ 32 → mag z < 2 ^ 32 → Plain (named ρ z)
+pub plain_named : (ρ : ℕ) (z : ℤ) → ρ < 2 ^ 32 → mag z < 2 ^ 32 → All Plain (named ρ z)
 plain_named zero (pos n) a h = plain_decimal n (omega arith)
-plain_named zero (negsuc n) a h = (((λ e. omega arith), (λ e. omega arith)), plain_decimal (suc n) (omega arith))
-plain_named (suc v) z a h = (((λ e. omega arith), (λ e. omega arith)), plain_both (decimal v) (apart z) (plain_decimal v (omega arith)) (plain_apart z h))
+plain_named zero (negsuc n) a h = All-cons Plain 45 (decimal (suc n)) (search arith) (plain_decimal (suc n) (omega arith))
+plain_named (suc v) z a h = All-cons Plain 95 (decimal v ++ apart z) (search arith) (All-append Plain (decimal v) (apart z) (plain_decimal v (omega arith)) (plain_apart z h))

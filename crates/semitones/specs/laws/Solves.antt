@@ -1,25 +1,20 @@
 -- The solutions of a record, node by node. Assumes nothing.
-use Rattle.std.specs.Prelude.{◌≡◌, ℕ, zero, suc, ◌<◌, ◌≤◌, true, false, ℤ, pos, negsuc, ◌+ℤ◌, slice_index_or, refl}
+use Rattle.std.specs.Prelude.{◌≡◌, ℕ, zero, suc, ◌<◌, ◌≤◌, true, false, ℤ, pos, ◌+ℤ◌, slice_index_or, refl}
 use Rattle.std.proofs.Common.{⊎_elim, sym, ap, subst, ◌∙◌, arith}
 use Rattle.std.proofs.Math.IntN.{+ℤ_idl}
-use Rattle.std.proofs.lemmas.Bool.{eq-eqb, eqb-true, and_from, and_parts, cases_eq, both_ways, lt-ltb, le-ltb, cond-true, cond-false}
+use Rattle.std.proofs.lemmas.Bool.{and_from, and_parts, cases_eq, both_ways, lt-ltb, le-ltb, cond-true, cond-false}
+use Rattle.std.proofs.lemmas.Bool.Decides.{Decides-int_eq}
 use Rattle.bank.specs.Kinds.{Value, number, pair, Assignment, all_admitted}
 use Rattle.semitones.specs.declared.cells.Record.{Record}
-use Rattle.semitones.specs.Whole.{whole, eq_z, is_number, number_of}
+use Rattle.semitones.specs.Whole.{whole, is_number, number_of}
+use Rattle.std.specs.Ordering.{int_eq}
 use Rattle.semitones.specs.Cells.{node, no_cell, cell_of, root_of_lem, by_of, agrees, solves, Sound}
 
-pub eq_z_true : (x y : ℤ) → eq_z x y ≡ true → x ≡ y
-eq_z_true (pos a) (pos b) e = ap pos (eqb-true a b e)
-eq_z_true (pos a) (negsuc b) e = absurd (both_ways false refl e)
-eq_z_true (negsuc a) (pos b) e = absurd (both_ways false refl e)
-eq_z_true (negsuc a) (negsuc b) e = ap negsuc (eqb-true a b e)
+pub eq_z_true : (x y : ℤ) → int_eq x y ≡ true → x ≡ y
+eq_z_true x y = (Decides-int_eq x y).0
 
-eq_z_refl : (x : ℤ) → eq_z x x ≡ true
-eq_z_refl (pos a) = eq-eqb a a refl
-eq_z_refl (negsuc a) = eq-eqb a a refl
-
-pub eq_eq_z : (x y : ℤ) → x ≡ y → eq_z x y ≡ true
-eq_eq_z x y e = subst (λ (z : ℤ). eq_z x z ≡ true) e (eq_z_refl x)
+pub eq_eq_z : (x y : ℤ) → x ≡ y → int_eq x y ≡ true
+eq_eq_z x y = (Decides-int_eq x y).1
 
 -- a cell in use, and one that is not
 pub cell_in : (r : Record) (a : ℕ) → a < r.used → cell_of r a ≡ slice_index_or r.cells a no_cell
@@ -32,13 +27,13 @@ pub agrees_from : (r : Record) (σ : Assignment) (n : ℕ) → ((a : ℕ) → a 
 unfolding agrees
 agrees_from r σ zero h = refl
 agrees_from r σ (suc n) h =
-    and_from (eq_z (node σ n) (node σ (root_of_lem r n) +ℤ by_of r n)) (agrees r n σ) (eq_eq_z _ _ (h n (omega arith))) (agrees_from r σ n (λ a l. h a (omega arith)))
+    and_from (int_eq (node σ n) (node σ (root_of_lem r n) +ℤ by_of r n)) (agrees r n σ) (eq_eq_z _ _ (h n (omega arith))) (agrees_from r σ n (λ a l. h a (omega arith)))
 
 agrees_at : (r : Record) (σ : Assignment) (n : ℕ) → agrees r n σ ≡ true → (a : ℕ) → a < n → node σ a ≡ node σ (root_of_lem r a) +ℤ by_of r a
 unfolding agrees
 agrees_at r σ zero e a l = let z : ⊥ = omega arith in absurd z
 agrees_at r σ (suc n) e a l =
-    let parts = and_parts (eq_z (node σ n) (node σ (root_of_lem r n) +ℤ by_of r n)) (agrees r n σ) e in
+    let parts = and_parts (int_eq (node σ n) (node σ (root_of_lem r n) +ℤ by_of r n)) (agrees r n σ) e in
     ⊎_elim (λ (q : a ≡ n). subst (λ (x : ℕ). node σ x ≡ node σ (root_of_lem r x) +ℤ by_of r x) (sym q) (eq_z_true _ _ parts.0))
     (λ ne. agrees_at r σ n parts.1 a (omega arith)) (cases_eq a n)
 

@@ -8,9 +8,8 @@ use Rattle.records.specs.declared.slots.Slot.{Slot}
 use Rattle.records.specs.Slots.{live_at, Keeps}
 use Rattle.records.proofs.Places.{live_is, live_within, noted_is}
 use Rattle.trees.specs.declared.cells.Store.{Store}
-use Rattle.trees.specs.declared.cells.Form.TheVariants.{Free}
 use Rattle.trees.specs.Kind.{trees}
-use Rattle.trees.specs.Stores.{solves}
+use Rattle.trees.specs.Stores.{no_cell, solves}
 use Rattle.trees.specs.Values.{Sound, Kept, given}
 use Rattle.trees.specs.Meaning.{means, text_of}
 use Rattle.trees.specs.laws.Sounds.{sound_out}
@@ -35,7 +34,7 @@ module _ (slots : List (Slot Store)) (i : ℕ) (l : live_at slots i ≡ true) (p
 abbrev pub no_slot : Slot Store
 no_slot = record {
   live = false;
-  «record» = record { used = 0; roots = replicate 256 0; forms = replicate 256 Free; wide = length-replicate {A = ℕ} 256 0; full = length-replicate 256 Free };
+  «record» = record { used = 0; cells = replicate 256 no_cell; full = length-replicate 256 no_cell };
 }
 
 abbrev pub record_at : List (Slot Store) → ℕ → Store

@@ -1,27 +1,18 @@
 -- The solutions of a record as tests and as facts. Assumes nothing.
-use Rattle.std.specs.Prelude.{◌≡◌, ℕ, zero, suc, ◌<◌, Bool, true, false, ◌&&◌, ℤ, pos, negsuc, ◌≢◌, refl}
+use Rattle.std.specs.Prelude.{◌≡◌, ℕ, zero, suc, ◌<◌, Bool, true, false, ◌&&◌, ◌≢◌, refl}
 use Rattle.std.proofs.Common.{sym, ap, subst, ◌∙◌, ⊎_elim, arith}
-use Rattle.std.proofs.lemmas.Bool.{eq-eqb, eqb-true, and_from, and_parts, cases_eq, both_ways}
+use Rattle.std.proofs.lemmas.Bool.{and_from, and_parts, cases_eq, both_ways}
+use Rattle.std.proofs.lemmas.Bool.Decides.{Decides-int_eq}
 use Rattle.bank.specs.Kinds.{Value, number, pair, Assignment}
 use Rattle.trees.specs.declared.cells.Form.{Form}
 use Rattle.trees.specs.declared.cells.Form.TheVariants.{Free, Number, Pair}
 use Rattle.trees.specs.declared.cells.Store.{Store}
-use Rattle.trees.specs.Kind.{same_number, equal}
+use Rattle.trees.specs.Kind.{equal}
 use Rattle.trees.specs.Stores.{root_of_lem, form_of, fits, agrees, solves, Fits, Solves}
-
-pub number_true : (x y : ℤ) → same_number x y ≡ true → x ≡ y
-number_true (pos a) (pos b) e = ap pos (eqb-true a b e)
-number_true (pos a) (negsuc b) e = absurd (both_ways false refl e)
-number_true (negsuc a) (pos b) e = absurd (both_ways false refl e)
-number_true (negsuc a) (negsuc b) e = ap negsuc (eqb-true a b e)
-
-pub number_refl : (x : ℤ) → same_number x x ≡ true
-number_refl (pos a) = eq-eqb a a refl
-number_refl (negsuc a) = eq-eqb a a refl
 
 pub equal_true : (u v : Value) → equal u v ≡ true → u ≡ v
 unfolding equal
-equal_true (number a) (number b) e = ap number (number_true a b e)
+equal_true (number a) (number b) e = ap number ((Decides-int_eq a b).0 e)
 equal_true (number a) (pair c d) e = absurd (both_ways false refl e)
 equal_true (pair a b) (number c) e = absurd (both_ways false refl e)
 equal_true (pair a b) (pair c d) e =
@@ -30,7 +21,7 @@ equal_true (pair a b) (pair c d) e =
 
 pub equal_refl : (u : Value) → equal u u ≡ true
 unfolding equal
-equal_refl (number a) = number_refl a
+equal_refl (number a) = (Decides-int_eq a a).1 refl
 equal_refl (pair a b) = and_from (equal a a) (equal b b) (equal_refl a) (equal_refl b)
 
 pub equal_from : (u v : Value) → u ≡ v → equal u v ≡ true

@@ -10,7 +10,7 @@ use Rattle.trees.specs.declared.cells.Store.{Store}
 use Rattle.trees.specs.Stores.{form_of, Formed, Shaped}
 use Rattle.trees.specs.Values.{Sound}
 
-formed_prop : (n : ℕ) (f : Form) → IsProp (Formed n f)
+pub formed_prop : (n : ℕ) (f : Form) → IsProp (Formed n f)
 formed_prop n Free p q = refl
 formed_prop n (Number k) p q = le_prop p q
 formed_prop n (Pair x y) p q = λ i. (le_prop p.0 q.0 i, le_prop p.1 q.1 i)

@@ -1,7 +1,6 @@
 use Rattle.std.proofs.Common.{◌≡◌, ◌+◌, drop}
-use Rattle.line.specs.Slots.{slots_of}
 use Rattle.book.specs.Reading.{stray}
 use Rattle.book.proofs.place.in_scope.Given as goal
 
 abbrev pub invariant-loop-j : goal.invariant-loop-j
-invariant-loop-j l = stray l.scope (l.before + l.j) (drop l.j (slots_of l.slots)) ≡ stray l.scope l.before (slots_of l.slots)
+invariant-loop-j l = stray l.scope (l.before + l.j) (drop l.j l.slots) ≡ stray l.scope l.before l.slots

@@ -1,6 +1,7 @@
-use Rattle.std.proofs.Common.{◌≡◌, length, take}
+use Rattle.std.proofs.Common.{◌≡◌, length}
+use Rattle.row.specs.Items.{items}
 use Rattle.machine.specs.Machine.{upto}
 use Rattle.frontier.proofs.frame.first.Given as goal
 
-abbrev pub invariant-loop-i : goal.invariant-loop-i
-invariant-loop-i l = (length l.variables ≡ 16) × (take l.i l.variables ≡ upto l.i)
+abbrev pub invariant-loop-variable : goal.invariant-loop-variable
+invariant-loop-variable l = (items l.frame ≡ upto l.variable) × (length (items l.frame) ≡ l.variable)

@@ -1,7 +1,7 @@
-use Rattle.std.proofs.Common.{◌≡◌, length, take}
+use Rattle.std.proofs.Common.{◌≡◌, take}
+use Rattle.row.specs.Items.{items}
 use Rattle.machine.specs.Machine.{vars_of_lem}
-use Rattle.frontier.specs.Frames.{list_of}
 use Rattle.frontier.proofs.frame.select.Given as goal
 
-abbrev pub invariant-loop-i : goal.invariant-loop-i
-invariant-loop-i l = (length l.variables ≡ 16) × (take l.i l.variables ≡ vars_of_lem (list_of l.frame) (take l.i l.slots.places))
+abbrev pub invariant-loop-slot : goal.invariant-loop-slot
+invariant-loop-slot g l = items l.selected ≡ vars_of_lem (items l.frame) (take l.slot-index (items l.slots))

@@ -1,8 +1,8 @@
 -- Each way through a leaf's step. Assumes nothing.
-use Rattle.std.proofs.Common.{◌≤◌, vec_len, sym, refl, ◌∙◌, rules}
+use Rattle.std.proofs.Common.{arith, ◌≤◌, vec_len, sym, refl, ◌∙◌, rules}
 use Rattle.std.proofs.lemmas.Result.{err_from_is_err_and}
 use Rattle.std.proofs.lemmas.Bool.{ltb-true, ltb-false, eqb-true, eqb-false}
-use Rattle.frontier.proofs.Leaf.{ready_at, went_at, went_as, unchanged, goal_inside, store_live, frame_sized, frame_room, telling, call_scope, told_went, told_boxed, conj_went, disj_went, fresh_went, call_went, or_short, and_short, new_full, at_disj, no_second}
+use Rattle.frontier.proofs.Leaf.{ready_at, went_at, went_as, unchanged, goal_inside, store_live, frame_room, telling, call_scope, told_went, told_boxed, conj_went, disj_went, fresh_went, call_went, or_short, and_short, new_full, at_disj, no_second}
 use Rattle.frontier.proofs.steps.step_leaf.Goals as goal
 
 pub form-requires : goal.form-requires
@@ -106,14 +106,14 @@ pub extend-frame-requires : goal.extend-frame-requires
 extend-frame-requires g c =
     let l = c.args.leaf in
     let r = ready_at l c.requires.here c.requires.ready.1.1 in
-    record { frame = frame_sized l c.requires.ready.1.0 r; room = frame_room l c.requires.ready.1.0 c.in-New.goal c.in-New.ensures.stands r }
+    frame_room l c.requires.ready.1.0 c.in-New.goal c.in-New.ensures.stands r
 
 pub returns-else-all_used : goal.returns-else-all_used
 returns-else-all_used g c =
     let l = c.args.leaf in
     record {
       does = λ rules T r. went_as c.leaf-in-New.ensures (went_at l c.requires.here
-          (fresh_went _ l T c.in-New.goal c.in-New.ensures.stands (eqb-false _ _ (sym c.all_used.ensures ∙ c.if-all_used.false)) refl c.extend-frame.ensures.sized c.extend-frame.ensures.is refl refl) r);
+          (fresh_went _ l T c.in-New.goal c.in-New.ensures.stands (eqb-false _ _ (sym c.all_used.ensures ∙ c.if-all_used.false)) refl c.extend-frame.ensures refl refl) r);
       kept = search rules;
       cap = search rules;
       boxed = search rules;
@@ -126,7 +126,7 @@ pub select-frame-requires : goal.select-frame-requires
 select-frame-requires g c =
     let l = c.args.leaf in
     let r = ready_at l c.requires.here c.requires.ready.1.1 in
-    record { frame = frame_sized l c.requires.ready.1.0 r; scope = call_scope l c.requires.ready.1.0 c.in-Call.call c.in-Call.ensures.stands r }
+    (omega arith, (omega arith, call_scope l c.requires.ready.1.0 c.in-Call.call c.in-Call.ensures.stands r))
 
 pub returns-in-Call : goal.returns-in-Call
 returns-in-Call g c =
@@ -134,7 +134,7 @@ returns-in-Call g c =
     let q = c.rule-called.ensures in
     record {
       does = λ rules T r. went_as c.leaf-in-Call.ensures (went_at l c.requires.here
-          (call_went _ l T c.in-Call.call c.rule-called.result c.in-Call.ensures.stands q.rooted q.means refl c.select-frame.ensures.sized c.select-frame.ensures.is refl refl) r);
+          (call_went _ l T c.in-Call.call c.rule-called.result c.in-Call.ensures.stands q.rooted q.means refl c.select-frame.ensures refl refl) r);
       kept = search rules;
       cap = search rules;
       boxed = search rules;

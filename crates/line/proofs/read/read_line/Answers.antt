@@ -14,7 +14,7 @@ returns-then-not-takes c =
     let word = c.in_ok-word.ensures in
     let count : takes c.in_ok-word.word (length (here c.next_word.new.fields)) ≡ false = ap (takes c.in_ok-word.word) (sym c.left.ensures) ∙ sym c.if-not-takes.ensures in
     let does = sym (outcome_count n c.next_word.new.fields.given fs (here c.next_word.new.fields) c.in_ok-word.word word.does word.next.behind word.next.number count) in
-    record { does = does; exact = subst (Exact fs) (sym does) (exact n fs); sized = tt; rest = word.rest }
+    record { does = does; exact = subst (Exact fs) (sym does) (exact n fs); rest = word.rest }
 
 pub returns : goal.returns
 returns c =
@@ -25,4 +25,4 @@ returns c =
     let count : takes c.in_ok-word.word (length (here c.next_word.new.fields)) ≡ true = ap (takes c.in_ok-word.word) (sym c.left.ensures) ∙ sym c.if-not-takes.ensures in
     let does = numbers.does ∙ sym (outcome_numbered n c.next_word.new.fields.given fs (here c.next_word.new.fields) c.in_ok-word.word word.does word.next.behind word.next.number count) in
     let rest : Stays c.args.fields.now c.numbers_behind.new.fields = record { behind = numbers.rest.behind ∙ word.rest.behind; number = numbers.rest.number ∙ word.rest.number } in
-    record { does = does; exact = subst (Exact fs) (sym does) (exact n fs); sized = numbers.sized; rest = rest }
+    record { does = does; exact = subst (Exact fs) (sym does) (exact n fs); rest = rest }

@@ -2,7 +2,7 @@
 use Rattle.std.proofs.Common.{◌<◌, ap, ◌∙◌, arith}
 use Rattle.search.specs.declared.refusal.Halt.{Halt}
 use Rattle.search.specs.Refusals.{halted}
-use Rattle.search.proofs.Runs.{same_good, stopped, along_on}
+use Rattle.search.proofs.Runs.{stopped, along_on}
 use Rattle.search.proofs.Along.{none_left_on}
 use Rattle.search.proofs.Search.run.Goals as goal
 
@@ -11,7 +11,6 @@ halt-requires g c =
     let h = c.in-Err.ensures.does in
     let o = c.in_default.ensures in
     record {
-      good = same_good g.B.Bank.view c.loop-outcome.self c.advance.new.self h.same c.loop-outcome.invariant.good;
       posed = h.same.posed ∙ c.loop-outcome.invariant.is_posed;
       going = h.same.over ∙ o.1;
     }
@@ -30,7 +29,6 @@ returns-in-Err g c =
     let a = c.loop-outcome.invariant in
     let l : c.loop-outcome.steps < c.args.budget = omega (arith, a.few, o.2) in
     record {
-      good = same_good g.B.Bank.view c.loop-outcome.self c.advance.new.self h.same a.good;
       does = stopped g.B.Bank.view c.args.self.now c.loop-outcome.self c.advance.new.self c.loop-outcome.steps c.args.budget a l o.0 c.in-Err.stop _
           (c.halted.ensures ∙ ap (λ (h : Halt). halted c.in-Err.stop h) c.halt.ensures) h;
       none_left = none_left_on g.B.Bank.view c.args.self.now c.loop-outcome.self c.advance.new.self a.none_left c.in-Err.ensures.none_left;

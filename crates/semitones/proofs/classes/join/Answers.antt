@@ -1,106 +1,90 @@
 -- Why `join` answers and changes the record as the edge says.
-use Rattle.std.proofs.Common.{◌≡◌, ℕ, ◌<◌, ◌≤◌, ◌≢◌, ℤ, sym, ap, ◌∙◌, subst, arith, w32, to_z, of_z}
+use Rattle.std.proofs.Common.{◌≡◌, ℕ, ◌≤◌, ◌≢◌, ℤ, ◌-ℤ◌, neg_ℤ, sym, ap, ◌∙◌, subst, arith, w32, to_z, of_z}
 use lib.Signed.{mag}
-use Rattle.std.proofs.lemmas.Int.{to_z-of_z}
 use Rattle.semitones.specs.declared.cells.Cell.{Cell}
 use Rattle.semitones.specs.declared.cells.Edge.{Edge}
 use Rattle.semitones.specs.declared.cells.Record.{Record}
 use Rattle.semitones.specs.Cells.{by_of, Sound}
 use Rattle.semitones.specs.Joins.{Same, Moved}
 use Rattle.semitones.specs.laws.Bounds.{far}
-use Rattle.semitones.proofs.Moving.{moved_after}
-use Rattle.semitones.proofs.Told.{gap_bound, gap_back_bound, held, refused, joined_up, joined_down}
+use Rattle.semitones.proofs.Moving.{moved_as, moved_after}
+use Rattle.semitones.proofs.Told.{plain, plain_back, small_back, zero_code, code_zero, held, refused, joined_up, joined_down}
 use Rattle.semitones.proofs.classes.join.Goals as goal
 
--- the cells of an edge's nodes are not far from their roots
-nears : (r : Record) → Sound r → (e : Edge) (a b : Cell) → a.by ≡ by_of r e.a → b.by ≡ by_of r e.b → (mag a.by ≤ 257000) × (mag b.by ≤ 257000)
-nears r S e a b p q = (subst (λ (z : ℤ). mag z ≤ 257000) (sym p) (far r S e.a), subst (λ (z : ℤ). mag z ≤ 257000) (sym q) (far r S e.b))
+-- a distance as it is passed on
+passed : (r : Record) → Sound r → (a : ℕ) (x : ℤ) → x ≡ by_of r a → to_z w32 (of_z w32 x) ≡ by_of r a
+passed r S a x e =
+    let near : mag x ≤ 257000 = subst (λ (z : ℤ). mag z ≤ 257000) (sym e) (far r S a) in
+    plain x (omega arith) ∙ e
 
--- and so are those of a record whose nodes lie where they did
+-- the distances of a record whose nodes lie where they did
 far_same : (r s : Record) → Sound r → Same r s → (a : ℕ) → mag (by_of s a) ≤ 1000000
 far_same r s S A a =
     let e : by_of s a ≡ by_of r a = ap (λ (c : Cell). c.by) (A.cells a) in
     let h : mag (by_of s a) ≤ 257000 = subst (λ (z : ℤ). mag z ≤ 257000) (sym e) (far r S a) in
     omega arith
 
--- what comes back of a number that fits
-back_small : (z : ℤ) → mag z < 2147483648 → mag z ≤ 1000000 → mag (to_z w32 (of_z w32 z)) ≤ 1000000
-back_small z ok h = subst (λ (x : ℤ). mag x ≤ 1000000) (sym (to_z-of_z w32 z (record { sfits = ok }))) h
+-- the gap, by the distances that the record has
+gap_of : (r : Record) (e : Edge) → Sound r → (x y g : ℤ) → x ≡ by_of r e.a → y ≡ by_of r e.b → g ≡ (to_z w32 (of_z w32 x) -ℤ to_z w32 (of_z w32 y)) -ℤ e.k → g ≡ (by_of r e.a -ℤ by_of r e.b) -ℤ e.k
+gap_of r e S x y g p q h = h ∙ ap (λ (z : ℤ). (z -ℤ to_z w32 (of_z w32 y)) -ℤ e.k) (passed r S e.a x p) ∙ ap (λ (z : ℤ). (by_of r e.a -ℤ z) -ℤ e.k) (passed r S e.b y q)
 
-pub level-requires : goal.level-requires
-level-requires c = record {
-  far = nears c.args.r.now c.requires.sound c.args.e.now c.place-a.result c.place-b.result c.place-a.ensures.by c.place-b.ensures.by;
-  close = c.requires.close;
-}
+pub gap-gap-requires : goal.gap-gap-requires
+gap-gap-requires c =
+    let near : (a : ℕ) (x : ℤ) → x ≡ by_of c.args.r.now a → mag (to_z w32 (of_z w32 x)) ≤ 257000 = λ a x e. subst (λ (z : ℤ). mag z ≤ 257000) (sym (passed c.args.r.now c.requires.sound a x e)) (far c.args.r.now c.requires.sound a) in
+    record { far = (near c.args.e.now.a c.place-a.result.by c.place-a.ensures.by, near c.args.e.now.b c.place-b.result.by c.place-b.ensures.by) }
 
-pub returns-then-level : goal.returns-then-level
-returns-then-level c =
-    held c.args.r.now c.args.e.now c.requires.sound c.requires.nodes.0 c.requires.nodes.1
-    (sym c.place-a.ensures.root ∙ c.if-a-b.true ∙ c.place-b.ensures.root)
-    c.place-a.result.by c.place-b.result.by c.place-a.ensures.by c.place-b.ensures.by c.if-level.ensures
+pub returns-then-gap-eq0 : goal.returns-then-gap-eq0
+returns-then-gap-eq0 c =
+    let a = c.place-a in
+    let b = c.place-b in
+    let g = c.gap-gap in
+    held c.args.r.now c.args.e.now c.requires.sound g.result (gap_of c.args.r.now c.args.e.now c.requires.sound a.result.by b.result.by g.result a.ensures.by b.ensures.by g.ensures.gap)
+    (sym a.ensures.root ∙ c.if-a-b.true ∙ b.ensures.root) (zero_code g.result g.ensures.little c.if-gap-eq0.true)
 
-pub returns-else-level : goal.returns-else-level
-returns-else-level c =
-    refused c.args.r.now c.args.e.now c.requires.sound c.requires.nodes.0 c.requires.nodes.1
-    (sym c.place-a.ensures.root ∙ c.if-a-b.true ∙ c.place-b.ensures.root)
-    c.place-a.result.by c.place-b.result.by c.place-a.ensures.by c.place-b.ensures.by c.if-level.ensures
-
-pub gap-up-requires : goal.gap-up-requires
-gap-up-requires c = record {
-  far = nears c.args.r.now c.requires.sound c.args.e.now c.place-a.result c.place-b.result c.place-a.ensures.by c.place-b.ensures.by;
-  close = c.requires.close;
-}
+pub returns-else-gap-eq0 : goal.returns-else-gap-eq0
+returns-else-gap-eq0 c =
+    let a = c.place-a in
+    let b = c.place-b in
+    let g = c.gap-gap in
+    refused c.args.r.now c.args.e.now c.requires.sound g.result (gap_of c.args.r.now c.args.e.now c.requires.sound a.result.by b.result.by g.result a.ensures.by b.ensures.by g.ensures.gap)
+    (sym a.ensures.root ∙ c.if-a-b.true ∙ b.ensures.root) (λ e. c.if-gap-eq0.false (code_zero g.result e))
 
 pub shift-requires : goal.shift-requires
-shift-requires c =
-    let near = nears c.args.r.now c.requires.sound c.args.e.now c.place-a.result c.place-b.result c.place-a.ensures.by c.place-b.ensures.by in
-    let g = c.gap-up.result in
-    record {
-      sized = c.reach.ensures.same.sized;
-      far = far_same c.args.r.now c.reach.new.r c.requires.sound c.reach.ensures.same;
-      little = back_small g c.gap-up.type_inv (gap_bound g c.place-a.result.by c.place-b.result.by c.args.e.now.k c.gap-up.ensures near.0 near.1 c.requires.close);
-      inside = omega (arith, c.place-b.ensures.root, c.requires.sound.low c.args.e.now.b, c.reach.ensures.reached, c.max.ensures);
-    }
-
-pub gap_back-down-requires : goal.gap_back-down-requires
-gap_back-down-requires c = record {
-  far = nears c.args.r.now c.requires.sound c.args.e.now c.place-a.result c.place-b.result c.place-a.ensures.by c.place-b.ensures.by;
-  close = c.requires.close;
+shift-requires c = record {
+  few = c.reach.ensures.same.few;
+  far = far_same c.args.r.now c.reach.new.r c.requires.sound c.reach.ensures.same;
+  little = subst (λ (z : ℤ). mag z ≤ 1000000) (sym (plain c.gap-gap.result (omega (arith, c.gap-gap.ensures.little)))) (omega (arith, c.gap-gap.ensures.little));
+  inside = omega (arith, c.place-b.ensures.root, c.requires.sound.low c.args.e.now.b, c.reach.ensures.reached, c.max.ensures);
 }
 
 pub shift-requires-else-a-b-2 : goal.shift-requires-else-a-b-2
-shift-requires-else-a-b-2 c =
-    let near = nears c.args.r.now c.requires.sound c.args.e.now c.place-a.result c.place-b.result c.place-a.ensures.by c.place-b.ensures.by in
-    let g = c.gap_back-down.result in
-    record {
-      sized = c.reach.ensures.same.sized;
-      far = far_same c.args.r.now c.reach.new.r c.requires.sound c.reach.ensures.same;
-      little = back_small g c.gap_back-down.type_inv (gap_back_bound g c.place-b.result.by c.place-a.result.by c.args.e.now.k c.gap_back-down.ensures near.1 near.0 c.requires.close);
-      inside = omega (arith, c.place-a.ensures.root, c.requires.sound.low c.args.e.now.a, c.reach.ensures.reached, c.max.ensures);
-    }
+shift-requires-else-a-b-2 c = record {
+  few = c.reach.ensures.same.few;
+  far = far_same c.args.r.now c.reach.new.r c.requires.sound c.reach.ensures.same;
+  little = subst (λ (z : ℤ). mag z ≤ 1000000) (sym (plain_back c.gap-gap.result c.gap-gap.ensures.little)) (small_back c.gap-gap.result c.gap-gap.ensures.little);
+  inside = omega (arith, c.place-a.ensures.root, c.requires.sound.low c.args.e.now.a, c.reach.ensures.reached, c.max.ensures);
+}
 
 -- the class is moved in the record as it was passed, too
-moved_since : (r s t : Record) (from to : ℕ) (g : ℤ) → Same r s → mag g < 2147483648 → Moved from to (to_z w32 (of_z w32 g)) s t → Moved from to g r t
-moved_since r s t from to g A ok M = moved_after from to g r s t A (subst (λ (z : ℤ). Moved from to z s t) (to_z-of_z w32 g (record { sfits = ok })) M)
+moved_since : (r s t : Record) (from to : ℕ) (x g : ℤ) → Same r s → x ≡ g → Moved from to x s t → Moved from to g r t
+moved_since r s t from to x g A e M = moved_after from to g r s t A (moved_as from to x g s t e M)
 
 pub returns-then-a-b-2 : goal.returns-then-a-b-2
 returns-then-a-b-2 c =
     let a = c.place-a in
     let b = c.place-b in
-    let g = c.gap-up.result in
-    joined_up c.args.r.now c.args.e.now c.requires.sound c.requires.nodes.0 c.requires.nodes.1 c.requires.close c.shift.new.r b.result.root a.result.root a.result.by b.result.by g
-    a.ensures.by b.ensures.by
-    (moved_since c.args.r.now c.reach.new.r c.shift.new.r b.result.root a.result.root g c.reach.ensures.same c.gap-up.type_inv c.shift.ensures)
-    a.ensures.root b.ensures.root c.if-a-b-2.true c.gap-up.ensures
+    let g = c.gap-gap in
+    joined_up c.args.r.now c.args.e.now c.requires.sound g.result (gap_of c.args.r.now c.args.e.now c.requires.sound a.result.by b.result.by g.result a.ensures.by b.ensures.by g.ensures.gap)
+    c.shift.new.r b.result.root a.result.root a.ensures.root b.ensures.root c.if-a-b-2.true
+    (moved_since c.args.r.now c.reach.new.r c.shift.new.r b.result.root a.result.root _ g.result c.reach.ensures.same (plain g.result (omega (arith, g.ensures.little))) c.shift.ensures)
 
 pub returns-else-a-b-2 : goal.returns-else-a-b-2
 returns-else-a-b-2 c =
     let a = c.place-a in
     let b = c.place-b in
-    let g = c.gap_back-down.result in
+    let g = c.gap-gap in
     let s = c.shift-else-a-b-2.new.r in
     let ne : a.result.root ≢ b.result.root = c.if-a-b.false in
-    joined_down c.args.r.now c.args.e.now c.requires.sound c.requires.nodes.0 c.requires.nodes.1 c.requires.close s a.result.root b.result.root a.result.by b.result.by g
-    a.ensures.by b.ensures.by
-    (moved_since c.args.r.now c.reach.new.r s a.result.root b.result.root g c.reach.ensures.same c.gap_back-down.type_inv c.shift-else-a-b-2.ensures)
-    a.ensures.root b.ensures.root (omega (arith, c.if-a-b-2.false)) c.gap_back-down.ensures
+    joined_down c.args.r.now c.args.e.now c.requires.sound g.result (gap_of c.args.r.now c.args.e.now c.requires.sound a.result.by b.result.by g.result a.ensures.by b.ensures.by g.ensures.gap)
+    s a.result.root b.result.root a.ensures.root b.ensures.root (omega (arith, c.if-a-b-2.false))
+    (moved_since c.args.r.now c.reach.new.r s a.result.root b.result.root _ (neg_ℤ g.result) c.reach.ensures.same (plain_back g.result g.ensures.little) c.shift-else-a-b-2.ensures)

@@ -1,7 +1,12 @@
--- One more node taken into use by `reach`.
+-- The nodes taken into use by `reach`.
 use Rattle.std.proofs.Common.{arith}
-use Rattle.semitones.proofs.Moving.{same_more}
+use Rattle.semitones.proofs.Moving.{same_taken}
 use Rattle.semitones.proofs.classes.reach.Goals as goal
 
-pub loop-r-preserved : goal.loop-r-preserved
-loop-r-preserved c = same_more _ c.loop-r.r c.loop-r.invariant (omega arith)
+pub returns : goal.returns
+returns c =
+    let kept = c.loop-node.invariant in
+    record {
+      same = same_taken c.args.r.now _ (omega (arith, kept.used)) (omega (arith, kept.used, c.requires.few)) kept.kept (λ a g l. kept.own a g (omega (arith, kept.used)));
+      reached = omega arith;
+    }

@@ -2,5 +2,5 @@
 use Rattle.semitones.proofs.Moving.{Moving}
 use Rattle.semitones.proofs.classes.shift.Given as goal
 
-abbrev pub invariant-loop-i : goal.invariant-loop-i
-invariant-loop-i l = Moving l.from l.to l.gap l.initial.r l.r l.i
+abbrev pub invariant-loop-cell : goal.invariant-loop-cell
+invariant-loop-cell l = Moving l.from l.to l.gap l.initial.cells l.cells l.cell-index

@@ -1,12 +1,13 @@
-use Rattle.std.proofs.Common.{refl, arith}
-use Rattle.trees.proofs.Writing.{alike_then, reached_more}
+use Rattle.std.proofs.Common.{arith}
+use Rattle.trees.proofs.Writing.{taken}
 use Rattle.trees.proofs.classes.reach.Goals as goal
 
-pub loop-r-preserved : goal.loop-r-preserved
-loop-r-preserved c =
-    let r = c.loop-r.r in
-    let inv = c.loop-r.invariant in (
-      alike_then c.args.r.now r _ inv.0 (reached_more r _ (omega (arith, c.requires.bound)) refl refl refl),
-      omega (arith, inv.1),
-      omega (arith, c.requires.bound),
-    )
+pub returns : goal.returns
+returns c =
+    let kept = c.loop-x.invariant in
+    record {
+      alike = taken c.args.r.now _ (omega (arith, kept.used)) kept.kept (λ a g l. kept.own a g (omega (arith, kept.used)));
+      more = omega (arith, kept.used);
+      covers = omega arith;
+      within = omega (arith, kept.used);
+    }

@@ -1,10 +1,16 @@
-use Rattle.std.proofs.Common.{List, set, ap, arith}
-use Rattle.trees.specs.declared.cells.Form.{Form}
-use Rattle.trees.proofs.Writing.{moved}
+use Rattle.std.proofs.Common.{◌≡◌, ◌-◌, length, drop, ◌++◌, refl, ap, ◌∙◌, arith, length-take-le, length-append}
+use Rattle.std.proofs.lemmas.List.{get_or_append_left, get_or-take}
+use Rattle.trees.specs.Stores.{no_cell}
+use Rattle.trees.proofs.Writing.{under, moved}
 use Rattle.trees.proofs.joins.link.Goals as goal
 
 pub returns : goal.returns
 returns c =
     let r = c.args.r.now in
-    moved r _ c.loop-i.invariant.0 c.args.to c.args.form c.requires.second c.requires.used (ap (λ (fs : List Form). set fs c.args.to c.args.form) c.loop-i.invariant.1)
-    c.args.from c.requires.first (λ a l. c.loop-i.invariant.2 a (omega arith))
+    let rest = drop (r.used - 0) r.cells in
+    let n : length c.loop-cell.cells ≡ r.used = omega (arith, c.loop-cell.auto.cells, length-take-le (r.used - 0) r.cells (omega (arith, r.full))) in
+    moved r _ refl c.args.to c.args.form c.requires.second c.args.from c.requires.first (c.loop-cell.cells ++ rest) (omega (arith, n, length-append c.loop-cell.cells rest))
+    (λ a l.
+    get_or_append_left c.loop-cell.cells rest no_cell a (omega (arith, n)) ∙ c.loop-cell.invariant.0 a (omega arith)
+    ∙ ap (under c.args.from c.args.to) (get_or-take (r.used - 0) r.cells a no_cell (omega arith)))
+    refl

@@ -12,12 +12,12 @@ loop-e-preserved c =
     let u = c.join.new.s in
     let got = c.in-Some.ensures in
     let e : items w ≡ c.in-Some.e ∷ items v = popped (items w) (items v) c.in-Some.e got.does.value got.does.left in
-    let j = c.if-not-join.ensures.joined in
+    let j = c.in_ok-join.ensures.joined in
     let len = ap length e in (
       j.shaped,
       j.used ∙ c.loop-e.invariant.1,
       j.named,
-      omega (arith, j.room, c.loop-e.invariant.3, ap length got.does.lent, c.if-not-join.ensures.room),
+      omega (arith, j.room, c.loop-e.invariant.3, ap length got.does.lent, c.in_ok-join.ensures.room),
       same_trans (Left c.args.r.now (items c.args.s.now)) (Left c.loop-e.r (items w)) (Left c.join.new.r (items u))
           c.loop-e.invariant.4 (subst (λ (es : List Equation). Same (Left c.loop-e.r es) (Left c.join.new.r (items u))) (sym e) j.left),
     )

@@ -1,4 +1,4 @@
-use Rattle.std.proofs.Common.{arith}
+use Rattle.std.proofs.Common.{rules, arith}
 use Rattle.stack.specs.Items.{items}
 use Rattle.trees.specs.laws.Shapes.{shaped_alike}
 use Rattle.trees.proofs.Narrowing.{few_classes, proper_more, never_narrow, narrows}
@@ -9,18 +9,20 @@ start-requires c =
     let R = c.reach.ensures in
     let s = c.new-s.ensures in
     record {
-      shaped = shaped_alike c.args.r.now c.reach.new.r R.alike R.more R.within c.requires.sound.shaped;
+      shaped = shaped_alike c.args.r.now c.reach.new.r R.alike R.more R.within c.requires.shaped;
       proper = proper_more c.span.result c.reach.new.r.used c.args.t R.covers c.span.ensures.all;
       empty = s.empty;
       room = omega (arith, s.room);
     }
 
-pub returns-then-not-start : goal.returns-then-not-start
-returns-then-not-start c = never_narrow c.args.r.now c.reach.new.r c.start.new.r c.span.result c.args.t c.reach.ensures c.if-not-start.ensures.started
+pub returns-in_err-start : goal.returns-in_err-start
+returns-in_err-start c =
+    let never = never_narrow c.args.r.now c.reach.new.r c.span.result c.args.t c.reach.ensures c.in_err-start.ensures.started in
+    search rules
 
 pub resolve-requires : goal.resolve-requires
 resolve-requires c =
-    let A = c.if-not-start.ensures.started in
+    let A = c.in_ok-start.ensures.started in
     let few = few_classes c.start.new.r in
     record {
       shaped = A.shaped;
@@ -28,12 +30,18 @@ resolve-requires c =
       room = omega (arith, few, A.few, c.start.ensures.room, c.new-s.ensures.room);
     }
 
-pub returns-then-not-resolve : goal.returns-then-not-resolve
-returns-then-not-resolve c =
-    let A = c.if-not-start.ensures.started in
-    never_narrow c.args.r.now c.reach.new.r c.resolve.new.r c.span.result c.args.t c.reach.ensures (λ σ o. c.if-not-resolve.ensures σ (A.left.to σ o))
+pub returns-in_err-resolve : goal.returns-in_err-resolve
+returns-in_err-resolve c =
+    let A = c.in_ok-start.ensures.started in
+    let never = never_narrow c.args.r.now c.reach.new.r c.span.result c.args.t c.reach.ensures (λ σ o. c.in_err-resolve.ensures σ (A.left.to σ o)) in
+    search rules
 
-pub returns : goal.returns
-returns c =
+pub returns-then-grounded : goal.returns-then-grounded
+returns-then-grounded c =
     narrows c.args.r.now c.reach.new.r c.start.new.r c.resolve.new.r c.span.result c.args.t (items c.start.new.s)
-    c.reach.ensures c.if-not-start.ensures.started c.if-not-resolve.ensures c.grounded.result c.grounded.ensures
+    c.reach.ensures c.in_ok-start.ensures.started c.in_ok-resolve.ensures c.if-grounded.ensures
+
+pub returns-else-grounded : goal.returns-else-grounded
+returns-else-grounded c =
+    let A = c.in_ok-start.ensures.started in
+    never_narrow c.args.r.now c.reach.new.r c.span.result c.args.t c.reach.ensures (λ σ o. c.if-grounded.ensures σ (c.in_ok-resolve.ensures.left.to σ (A.left.to σ o)))

@@ -1,22 +1,13 @@
 use Rattle.std.proofs.Common.{sym, arith}
-use Rattle.trees.proofs.Deciding.{equal_held, equal_refused, equal_united}
+use Rattle.trees.proofs.Deciding.{equal_united}
 use Rattle.trees.proofs.tells.decide_equal.Goals as goal
-
-pub returns-then-a-b : goal.returns-then-a-b
-returns-then-a-b c =
-    equal_held c.args.r.now c.args.x c.args.y c.root_of-a.result c.root_of-b.result c.requires.proper.0 c.requires.proper.1 c.root_of-a.ensures c.root_of-b.ensures c.if-a-b.true
-
-pub returns-then-clashes : goal.returns-then-clashes
-returns-then-clashes c =
-    equal_refused c.args.r.now c.args.x c.args.y c.root_of-a.result c.root_of-b.result c.requires.proper.0 c.requires.proper.1 c.root_of-a.ensures c.root_of-b.ensures
-    c.form_at-f.result c.form_at-g.result c.form_at-f.ensures c.form_at-g.ensures (sym c.if-clashes.ensures)
 
 pub returns-then-is_flat-2 : goal.returns-then-is_flat-2
 returns-then-is_flat-2 c =
     let R = c.reach.ensures in
     let P = c.span.ensures.all in
-    equal_united c.args.r.now c.args.x c.args.y c.root_of-a.result c.root_of-b.result c.requires.proper.0 c.requires.proper.1 c.root_of-a.ensures c.root_of-b.ensures
+    equal_united c.args.r.now c.args.t c.root_of-a.result c.root_of-b.result c.root_of-a.ensures c.root_of-b.ensures
     c.form_at-f.result c.form_at-g.result c.form_at-f.ensures c.form_at-g.ensures
-    c.reach.new.r c.unite.new.r c.span.result c.requires.sound R (omega (arith, P.0, R.covers)) (omega (arith, P.1, R.covers)) c.if-a-b.false
+    c.reach.new.r c.unite.new.r c.span.result c.requires R (omega (arith, P.0, R.covers)) (omega (arith, P.1, R.covers)) c.if-a-b.false
     (sym c.if-clashes.ensures) (sym c.if-is_flat.ensures) (sym c.if-is_flat-2.ensures)
     c.choose.result c.choose.ensures c.unite.ensures.up c.unite.ensures.down

@@ -5,8 +5,8 @@ use Rattle.trees.proofs.tells.tell_copied.Goals as goal
 pub returns-then-alike : goal.returns-then-alike
 returns-then-alike c = record {
   same = refl;
-  always = λ σ. sym (solves_alike c.args.r.now c.narrow.new.r (c.if-alike.ensures refl) σ) ∙ c.if-not-narrow.ensures.solutions σ;
+  always = λ σ. sym (solves_alike c.args.r.now c.narrow.new.r (c.if-alike.ensures refl) σ) ∙ c.in_ok-narrow.ensures.solutions σ;
 }
 
 pub returns : goal.returns
-returns c = c.if-not-narrow.ensures
+returns c = c.in_ok-narrow.ensures

@@ -1,0 +1,28 @@
+// A row of at most N elements that lies where it is declared: what a Vec is where nothing may be allocated. It is copied as a whole.
+#![tactic(auto)]
+
+ghost use Rattle.std.specs.Prelude.{◌≡◌, ◌≤◌, ⊤, length};
+
+pub mod calls;
+
+use std::alloc::AllocError;
+
+// The first `len` of the places are in use.
+pub struct Row<T, const N: usize> {
+    places: [T; N],
+    len: usize,
+    ghost whole: { length places ≡ N },
+    ghost few: { len ≤ N },
+}
+
+impl<T: Copy, const N: usize> Clone for Row<T, N> {
+    ghost is_clone = { λ x y. y ≡ x };
+
+    ghost is_infallible = { λ _. ⊤ };
+
+    fn clone(&self) -> Result<Row<T, N>, AllocError> {
+        Ok(*self)
+    }
+}
+
+impl<T: Copy, const N: usize> Copy for Row<T, N> {}
