@@ -1,13 +1,14 @@
 // The slots of a bank's stores, and the numbers of the idle ones.
 ghost use Rattle.std.specs.Prelude.{◌≡◌, ℕ, ◌-◌, ◌<◌, ◌≤◌, min, false, length, count_by, MatchOption, slice_index};
 ghost use Rattle.row.specs.Items.{items, Last};
-ghost use Rattle.bank.specs.Calls.{Opens, Forks, Releases};
+ghost use Rattle.bank.specs.Calls.{Opens, Forks, Releases, Prints};
 ghost use Rattle.records.specs.Slots.{idle, live_at, means, Listed, Keeps, Stands};
 
 use crate::slots::{Slot, copy, idle_all, is_live};
 use crate::stored::Stored;
 use bank::Refusal;
 use row::Row;
+use texts::Writer;
 
 // The numbers below `count`, the first of them last.
 fn numbers(count: u16) -> Row<u16, 1024>
@@ -84,7 +85,7 @@ impl<'a, R: Stored> Shelf<'a, R> {
 
     // A store with all solutions.
     pub fn open(&mut self) -> Result<u16, Refusal>
-        ensures { Opens R.kind R.variables (means R.solutions R.text self.old.slots.now (length (items self.old.vacancies))) (means R.solutions R.text self.new.slots.now (length (items self.new.vacancies))) result }
+        ensures { Opens R.kind R.V (means R.solutions R.text self.old.slots.now (length (items self.old.vacancies))) (means R.solutions R.text self.new.slots.now (length (items self.new.vacancies))) result }
     {
         let Some(at) = self.vacant() else {
             return Err(Refusal::NoSpare);
@@ -120,5 +121,19 @@ impl<'a, R: Stored> Shelf<'a, R> {
         self.slots[at].live = false;
         self.vacancies.push(store);
         Ok(())
+    }
+
+    // Writes the text of a variable to the front of `part`, and answers its length.
+    pub fn print(&self, store: u16, var: u16, part: &mut [u8]) -> Result<usize, Refusal>
+        ensures { Prints R.V (means R.solutions R.text self.now.slots.now (length (items self.now.vacancies))) store var part.old part.new result }
+    {
+        let at = self.place(store)?;
+        if var >= R::V {
+            return Err(Refusal::BadVariable);
+        }
+        let slots = &*self.slots;
+        let mut writer = Writer::new(part);
+        slots[at].record.write(var, &mut writer);
+        writer.finish().ok_or(Refusal::TextTooLong)
     }
 }

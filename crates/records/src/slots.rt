@@ -33,9 +33,8 @@ pub fn idle_all<R: Copy>(slots: &mut [Slot<R>]) -> u16
     ensures all { result ≡ length slots.old }
     ensures same { SameRecords slots.old slots.new }
 {
-    // By index: after a loop over `iter_mut` a proof knows the length alone.
-    for i in 0..slots.len() {
-        slots[i].live = false;
+    for slot in slots.iter_mut() {
+        slot.live = false;
     }
     slots.len() as u16
 }

@@ -1,12 +1,18 @@
 // What a shelf asks of the records that it keeps.
-ghost use Rattle.std.specs.Prelude.{◌≡◌, ℕ, List};
+ghost use Rattle.std.specs.Prelude.{◌≡◌, ℕ, ◌<◌, List};
 ghost use Rattle.bank.specs.Kinds.{Kind, Assignment, Solutions, all_admitted};
+ghost use Rattle.texts.specs.Pieces.{Adds};
+
+use texts::Writer;
 
 // A record says which solutions a store has, and the texts of its variables. `sound` is what every store's record keeps.
 pub trait Stored: Copy {
-    ghost kind: { Kind };
+    // How many variables a store has.
+    const V: u16;
 
-    ghost variables: { ℕ };
+    ghost V: { ℕ };
+
+    ghost kind: { Kind };
 
     ghost solutions: { Self → Solutions };
 
@@ -17,10 +23,16 @@ pub trait Stored: Copy {
     // What a copy has of the record that it is of.
     ghost alike: { Self → Self → Type 0 };
 
+    // Adds the text of a variable.
+    fn write(&self, var: u16, writer: &mut Writer)
+        requires sound { ∥ sound self.now ∥₁ }
+        requires within { var < V }
+        ensures { Adds (text self.now var) writer.old writer.new };
+
     // Makes it a record with all solutions, whatever it held.
     fn clear(&mut self)
         ensures sound { sound self.new }
-        ensures all { (σ : Assignment) → solutions self.new σ ≡ all_admitted kind variables σ };
+        ensures all { (σ : Assignment) → solutions self.new σ ≡ all_admitted kind V σ };
 
     // Makes it a record with the solutions of another, whatever it held.
     fn copy_from(&mut self, other: &Self)

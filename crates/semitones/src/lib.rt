@@ -17,9 +17,7 @@ use bank::{Bank, Constraint, Effect, Refusal};
 pub use cells::{Cell, Record};
 use classes::join;
 use edges::{arity, edge};
-use names::write;
 use records::{Shelf, Slot};
-use texts::Writer;
 
 // The stores stand on a shelf of lent slots.
 #[derive(Drop)]
@@ -84,15 +82,6 @@ impl<'a> Bank for Semitones<'a> {
     }
 
     fn print(&self, store: u16, var: u16, part: &mut [u8]) -> Result<usize, Refusal> {
-        if !self.shelf.is_live(store) {
-            return Err(Refusal::NotLive);
-        }
-        if var >= 256 {
-            return Err(Refusal::BadVariable);
-        }
-        let slots = &*self.shelf.slots;
-        let mut text = Writer::new(part);
-        write(&slots[store as usize].record, var, &mut text);
-        text.finish().ok_or(Refusal::TextTooLong)
+        self.shelf.print(store, var, part)
     }
 }

@@ -5,12 +5,16 @@ ghost use Rattle.semitones.specs.Cells.{solves, shown, Sound};
 ghost use Rattle.semitones.specs.Joins.{Same};
 
 use crate::cells::Record;
+use crate::names::write;
 use records::Stored;
+use texts::Writer;
 
 impl Stored for Record {
-    ghost kind = { whole };
+    const V: u16 = 256;
 
-    ghost variables = { 256 };
+    ghost V = { 256 };
+
+    ghost kind = { whole };
 
     ghost solutions = { solves };
 
@@ -19,6 +23,10 @@ impl Stored for Record {
     ghost sound = { Sound };
 
     ghost alike = { Same };
+
+    fn write(&self, var: u16, writer: &mut Writer) {
+        write(self, var, writer);
+    }
 
     fn clear(&mut self) {
         self.used = 0;

@@ -24,8 +24,6 @@ pub use cells::{Cell, Form, Store};
 use reading::{arity, task};
 use records::{Shelf, Slot};
 use slots::tell;
-use text::write;
-use texts::Writer;
 
 // The stores stand on a shelf of lent slots.
 #[derive(Drop)]
@@ -91,15 +89,6 @@ impl<'a> Bank for Trees<'a> {
     }
 
     fn print(&self, store: u16, var: u16, part: &mut [u8]) -> Result<usize, Refusal> {
-        if !self.shelf.is_live(store) {
-            return Err(Refusal::NotLive);
-        }
-        if var >= 256 {
-            return Err(Refusal::BadVariable);
-        }
-        let slots = &*self.shelf.slots;
-        let mut text = Writer::new(part);
-        write(&slots[store as usize].record, 256, var, &mut text);
-        text.finish().ok_or(Refusal::TextTooLong)
+        self.shelf.print(store, var, part)
     }
 }

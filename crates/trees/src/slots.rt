@@ -12,8 +12,10 @@ use crate::classes::alike;
 use crate::store::narrow;
 use crate::tasks::Task;
 use crate::tells::{decide, tell_copied};
+use crate::text::write;
 use bank::{Effect, Refusal};
 use records::{Slot, Stored, copy};
+use texts::Writer;
 
 // Makes a record say what another says: the cells in use are copied.
 #[tactic(auto, using(crate::proofs::Copying::taken_over))]
@@ -27,9 +29,11 @@ fn take_over(r: &mut Store, other: &Store)
 }
 
 impl Stored for Store {
-    ghost kind = { trees };
+    const V: u16 = 256;
 
-    ghost variables = { 256 };
+    ghost V = { 256 };
+
+    ghost kind = { trees };
 
     ghost solutions = { solves };
 
@@ -38,6 +42,10 @@ impl Stored for Store {
     ghost sound = { Sound };
 
     ghost alike = { Copy };
+
+    fn write(&self, var: u16, writer: &mut Writer) {
+        write(self, 256, var, writer);
+    }
 
     fn clear(&mut self) {
         self.used = 0;

@@ -3,5 +3,5 @@ use Rattle.std.proofs.Common.{◌≡◌, ℕ, ◌<◌, false, take, count_by}
 use Rattle.records.specs.Slots.{idle, live_at, SameRecords}
 use Rattle.records.proofs.slots.idle_all.Given as goal
 
-abbrev pub invariant-loop-i : goal.invariant-loop-i
-invariant-loop-i g l = (count_by idle (take l.i l.slots) ≡ l.i) × ((k : ℕ) → k < l.i → live_at l.slots k ≡ false) × SameRecords l.initial.slots l.slots
+abbrev pub invariant-loop-slot : goal.invariant-loop-slot
+invariant-loop-slot g l = (count_by idle (take l.slot-index l.slots) ≡ l.slot-index) × ((k : ℕ) → k < l.slot-index → live_at l.slots k ≡ false) × SameRecords l.initial.slots l.slots

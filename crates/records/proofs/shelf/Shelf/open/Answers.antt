@@ -27,4 +27,4 @@ returns g c =
     let rest = items c.pop.new.self in
     let last = last_popped ns rest at c.pop.result c.in-Some.ensures.last c.pop.ensures in
     let O = shelved b in
-    begun_added S.sound b.slots.now ns rest at last O c.clear.new.self c.index-slots-at.result _ (λ past. refl) S.solutions S.text (all_admitted S.kind S.variables) c.clear.ensures.all
+    begun_added S.sound b.slots.now ns rest at last O c.clear.new.self c.index-slots-at.result _ (λ past. refl) S.solutions S.text (all_admitted S.kind S.V) c.clear.ensures.all
