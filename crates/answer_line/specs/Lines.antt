@@ -6,6 +6,7 @@
 --   fault_of       the first comma or text of a line that does not fit into 1,024 bytes
 --   WritesLine     a line Written, or Refused
 --   FieldsTell     which fields of a line are equal
+--   ended          where a step ends that was made, or why it was not
 --   Put            some bytes stand at a place of the buffer
 --   PutsComma      a comma put, or refused, and so PutsText, PutsField and PutsLine
 --   lead           the comma before the text of a variable, which the first lacks
@@ -65,6 +66,10 @@ pub record FieldsTell (m : Meaning) (s p : ℕ) (line : List ℕ) : Type 0 where
   pub alike_back : (i j : ℕ) → i < p → j < p → Always (m.solutions s) (λ σ. σ i ≡ σ j) → slice_index_or (fields line) i [] ≡ slice_index_or (fields line) j []
 
 -- The steps of writing.
+
+abbrev pub ended : ℕ → Result (Unit {0}) Overlong → Result ℕ Overlong
+ended end (Ok done) = Ok end
+ended end (Err o) = Err o
 
 -- the bytes stand from `at` to `end`, and those around them are as they were
 pub record Put (bytes : List ℕ) (at : ℕ) (before after : List ℕ) (end : ℕ) : Type 0 where

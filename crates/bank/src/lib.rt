@@ -8,7 +8,7 @@ ghost use Rattle.bank.specs.Kinds.{all_below};
 ghost use Rattle.bank.specs.Numbers.{number};
 ghost use Rattle.bank.specs.Views.{View};
 
-// The variables of a constraint, in order.
+// The variables of a constraint, in order. An enum and no row, since a pattern then says how many there are.
 #[derive(Clone, Copy)]
 pub enum Vars {
     Zero,

@@ -11,5 +11,6 @@ pub mod Misfits
 pub mod Passing
 pub mod Polish
 pub mod Settling
+pub mod Strays
 pub mod Texts
 pub mod Walks

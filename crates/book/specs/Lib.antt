@@ -6,4 +6,5 @@ pub mod Reading
 pub mod Printing
 pub mod Lists
 pub mod Drafts
+pub mod States
 pub mod Building

@@ -1,5 +1,5 @@
 // A draft turned into a table of goals, from its last line up: the goals below a goal are there before it.
-ghost use Rattle.std.specs.Prelude.{◌≡◌, ℕ, ◌<◌, ◌≤◌, true, List, [], ◌∷◌, ◌++◌, length};
+ghost use Rattle.std.specs.Prelude.{◌≡◌, ℕ, ◌<◌, true, List, [], ◌∷◌, ◌++◌, length};
 ghost use Rattle.book.specs.Building.{formed, unused, head, tail};
 ghost use Rattle.book.specs.Drafts.{entries};
 ghost use Rattle.book.specs.Meaning.{nodes, meaning};
@@ -75,7 +75,7 @@ fn plant(table: &mut Table, roots: &mut Stack<u16>, listed: Listed, line: u16)
         scope: listed.scope,
         line,
     });
-    let _ = roots.push(at);
+    roots.push(at).unwrap();
 }
 
 // The book of lines that passed every check.

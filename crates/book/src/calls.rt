@@ -1,5 +1,5 @@
 // Each call of a draft against the rule that it names: a rule may stand behind its calls, so this comes last.
-ghost use Rattle.std.specs.Prelude.{◌≡◌, ◌+◌, ◌<◌, IfErr};
+ghost use Rattle.std.specs.Prelude.{◌≡◌, IfErr};
 ghost use Rattle.book.specs.Drafts.{entries, head_at, misfitted};
 ghost use Rattle.book.specs.Reading.{heads, call_fault_lem, misfit};
 ghost use Rattle.line.specs.Says.{says};
@@ -7,13 +7,6 @@ ghost use Rattle.line.specs.Says.{says};
 use super::drafts::Draft;
 use super::refusal::{Barred, Cause, Refusal};
 use line::Line;
-
-// What is wrong with a call, said of its second field, which names the rule.
-fn misfit_of(cause: Cause) -> Barred
-    ensures { result ≡ record { cause = cause; field = 2 } }
-{
-    Barred { cause, field: 2 }
-}
 
 impl Draft {
     // How many parameters a rule has, if there is one of that number.
@@ -47,7 +40,8 @@ impl Draft {
     {
         for (i, listed) in self.listed.as_slice().iter().enumerate() {
             if let Some(cause) = self.call_fault(listed.line) {
-                return Err(misfit_of(cause).at(i + 1));
+                // The second field names the rule.
+                return Err(Barred { cause, field: 2 }.at(i + 1));
             }
         }
         Ok(())

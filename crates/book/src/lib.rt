@@ -42,7 +42,8 @@ pub struct Rule {
     pub goal: u16,
 }
 
-// Goals, each behind those below it: a table that is being filled is well formed at every moment.
+// Goals, each behind those below it: a table that is being filled is well formed at every moment. Goals name each other by index, since a
+// book lies in fixed memory.
 #[derive(Clone, Copy)]
 pub(crate) struct Table {
     goals: Row<Node, 1024>,

@@ -1,5 +1,6 @@
 // One line after another finds its place in a draft.
-ghost use Rattle.std.specs.Prelude.{◌≡◌, ◌+◌, ◌<◌, ◌≤◌, true, [], ◌∷◌, ◌++◌, length, Ok, Err, OnOk};
+ghost use Rattle.std.specs.List.{position_from};
+ghost use Rattle.std.specs.Prelude.{IfSome, not, nat_lt, ◌≡◌, ◌+◌, ◌<◌, ◌≤◌, [], ◌∷◌, ◌++◌, length, Ok, Err, OnErr};
 ghost use Rattle.book.specs.Drafts.{entries, rules, goals, state_of, opened, opened_by, strayed, placed_by};
 ghost use Rattle.book.specs.Reading.{start, stray, heads, place_rule_lem, place_goal_lem, place};
 ghost use Rattle.line.specs.Says.{says};
@@ -10,21 +11,37 @@ use super::refusal::{Barred, Cause};
 use line::{Line, Row};
 use stack::Stack;
 
+// The lines so far, and the goals that are awaited, each by its scope: the newest stands first in the text.
+#[derive(Drop)]
+pub(crate) struct Gathering<'a> {
+    pub(crate) draft: Draft,
+    pub(crate) awaited: Stack<'a, u8>,
+    ghost wide: { room awaited ≡ 1025 },
+    ghost few: { length (items awaited) ≤ goals draft + 1 },
+}
+
+// The place of the first slot that is not in scope.
+fn first_stray(slots: &[u8], scope: u8) -> Option<usize>
+    ensures first { result ≡ position_from (λ x. not (nat_lt x scope)) 0 slots.now }
+    ensures within { IfSome result (λ j. j < length slots.now) }
+{
+    slots.iter().position(|slot| *slot >= scope)
+}
+
 // The slots are in scope. `before` is the number of the field before them.
+#[tactic(auto, using(crate::proofs::Strays::stray_none, crate::proofs::Strays::stray_some))]
 fn in_scope(slots: &[u8], scope: u8, before: usize) -> Result<(), Barred>
     requires { before ≤ 3 }
     ensures cause { elim result [ Ok u ↦ Unit {0} | Err b ↦ b.cause ≡ Cause.NotInScope ] }
     ensures field { strayed result ≡ stray scope before slots.now }
 {
-    for (j, slot) in slots.iter().enumerate() {
-        if *slot >= scope {
-            return Err(Barred {
-                cause: Cause::NotInScope,
-                field: before + j + 1,
-            });
-        }
+    match first_stray(slots, scope) {
+        None => Ok(()),
+        Some(j) => Err(Barred {
+            cause: Cause::NotInScope,
+            field: before + j + 1,
+        }),
     }
-    Ok(())
 }
 
 // What is awaited after a line that stands where a goal with `scope` slots was awaited.
@@ -33,20 +50,21 @@ fn open_below(awaited: &mut Stack<u8>, line: Line, scope: u8) -> Result<(), Barr
     ensures does { opened (says line) scope (items awaited.old) ≡ opened_by result (items awaited.new) }
     ensures room { room awaited.new ≡ room awaited.old }
     ensures few { length (items awaited.new) ≤ length (items awaited.old) + 2 }
+    ensures kept { OnErr result (items awaited.new ≡ items awaited.old) }
 {
     match line {
         Line::Rule { .. } => Err(Barred::line(Cause::RuleTooEarly)),
         Line::Tell(tell) => in_scope(tell.slots.as_slice(), scope, 3),
         Line::And | Line::Or => {
-            let _ = awaited.push(scope);
-            let _ = awaited.push(scope);
+            awaited.push(scope).unwrap();
+            awaited.push(scope).unwrap();
             Ok(())
         }
         Line::New => {
             if scope >= 16 {
                 return Err(Barred::line(Cause::TooManySlots));
             }
-            let _ = awaited.push(scope + 1);
+            awaited.push(scope + 1).unwrap();
             Ok(())
         }
         Line::Call(call) => in_scope(call.slots.as_slice(), scope, 2),
@@ -98,52 +116,59 @@ impl Draft {
         });
         self.params.push(params);
     }
+}
 
-    fn place_rule(&mut self, awaited: &mut Stack<u8>, params: u8) -> Result<(), Barred>
-        requires room { room awaited.old ≡ 1025 }
-        ensures does { place_rule_lem (state_of self.old (items awaited.old)) params (items awaited.old) ≡ placed_by result (state_of self.new (items awaited.new)) }
-        ensures room { room awaited.new ≡ 1025 }
-        ensures few { OnOk result (length (items awaited.new) ≤ goals self.new + 1) }
+impl<'a> Gathering<'a> {
+    ghost use Rattle.book.specs.States.{state};
+
+    // No line yet.
+    pub(crate) fn new(scopes: &'a mut [u8]) -> Gathering<'a>
+        requires { length scopes.old ≡ 1025 }
+        ensures { state result ≡ start }
     {
-        if !awaited.is_empty() {
+        Gathering {
+            draft: Draft::empty(),
+            awaited: Stack::new(scopes),
+        }
+    }
+
+    fn place_rule(&mut self, params: u8) -> Result<(), Barred>
+        ensures { place_rule_lem (state self.old) params (items self.old.awaited) ≡ placed_by result (state self.new) }
+    {
+        if !self.awaited.is_empty() {
             return Err(Barred::line(Cause::RuleTooEarly));
         }
-        if self.params.is_full() {
+        if self.draft.params.is_full() {
             return Err(Barred::line(Cause::TooManyRules));
         }
-        self.add_rule(params);
-        let _ = awaited.push(params);
+        self.draft.add_rule(params);
+        self.awaited.push(params).unwrap();
         Ok(())
     }
 
-    fn place_goal(&mut self, awaited: &mut Stack<u8>, line: Line) -> Result<(), Barred>
-        requires room { room awaited.old ≡ 1025 }
-        requires few { length (items awaited.old) ≤ goals self.old + 1 }
-        ensures does { place_goal_lem (state_of self.old (items awaited.old)) (says line) (items awaited.old) ≡ placed_by result (state_of self.new (items awaited.new)) }
-        ensures room { room awaited.new ≡ 1025 }
-        ensures few { OnOk result (length (items awaited.new) ≤ goals self.new + 1) }
+    fn place_goal(&mut self, line: Line) -> Result<(), Barred>
+        ensures { place_goal_lem (state self.old) (says line) (items self.old.awaited) ≡ placed_by result (state self.new) }
     {
-        let scope = awaited.pop().ok_or(Barred::line(Cause::GoalNotAwaited))?;
-        if self.goals() >= 1024 {
+        let scope = self
+            .awaited
+            .pop()
+            .ok_or(Barred::line(Cause::GoalNotAwaited))?;
+        if self.draft.goals() >= 1024 {
             return Err(Barred::line(Cause::TooManyGoals));
         }
-        open_below(awaited, line, scope)?;
-        self.add_goal(line, scope);
+        open_below(&mut self.awaited, line, scope)?;
+        self.draft.add_goal(line, scope);
         Ok(())
     }
 
     // One more line, or why it cannot stand here.
-    pub(crate) fn place(&mut self, awaited: &mut Stack<u8>, line: Line) -> Result<(), Barred>
-        requires room { room awaited.old ≡ 1025 }
-        requires few { length (items awaited.old) ≤ goals self.old + 1 }
-        ensures does { place (state_of self.old (items awaited.old)) (says line) ≡ placed_by result (state_of self.new (items awaited.new)) }
-        ensures room { room awaited.new ≡ 1025 }
-        ensures few { OnOk result (length (items awaited.new) ≤ goals self.new + 1) }
+    pub(crate) fn place(&mut self, line: Line) -> Result<(), Barred>
+        ensures { place (state self.old) (says line) ≡ placed_by result (state self.new) }
     {
         match line {
-            Line::Rule { params } => self.place_rule(awaited, params),
+            Line::Rule { params } => self.place_rule(params),
             Line::Tell(_) | Line::And | Line::Or | Line::New | Line::Call(_) => self.place_goal(
-                awaited, line,
+                line,
             ),
         }
     }

@@ -1,20 +1,19 @@
 // The reader: a text becomes a book, or is refused.
-ghost use Rattle.std.specs.Prelude.{◌≡◌, ◌+◌, ◌≤◌, [], length, OnErr, OnOk};
+ghost use Rattle.std.specs.Prelude.{◌≡◌, [], OnErr};
 ghost use Rattle.fields.specs.Cursor.{here, later};
 ghost use Rattle.fields.specs.Cutting.{lines};
 ghost use Rattle.line.specs.Reading.{outcome};
-ghost use Rattle.book.specs.Drafts.{goals, state_of, gathered, parsed, taken, placed_by, barred_by};
+ghost use Rattle.book.specs.Drafts.{gathered, parsed, taken, placed_by, barred_by};
 ghost use Rattle.book.specs.Meaning.{book_rules, book_nodes, meaning};
 ghost use Rattle.book.specs.Reading.{start, check, reading, answered, ReadsBooks};
-ghost use Rattle.stack.specs.Items.{items, room};
 
 use super::Book;
 use super::build::build;
 use super::drafts::Draft;
+use super::place::Gathering;
 use super::refusal::{Barred, Cause, Refusal};
 use fields::Fields;
 use line::{Fault, read_line};
-use stack::Stack;
 
 impl From<Fault> for Barred {
     ghost from_gives = { λ fault r. r ≡ barred_by fault };
@@ -31,19 +30,17 @@ impl From<Fault> for Barred {
     }
 }
 
-impl Draft {
+impl<'a> Gathering<'a> {
+    ghost use Rattle.book.specs.States.{state};
+
     // The line whose fields are next, in its place.
-    fn take_line(&mut self, fields: &mut Fields, awaited: &mut Stack<u8>) -> Result<(), Barred>
-        requires room { room awaited.old ≡ 1025 }
-        requires few { length (items awaited.old) ≤ goals self.old + 1 }
-        ensures does { taken (state_of self.old (items awaited.old)) (outcome fields.old.given (here fields.old)) ≡ placed_by result (state_of self.new (items awaited.new)) }
-        ensures room { room awaited.new ≡ 1025 }
-        ensures few { OnOk result (length (items awaited.new) ≤ goals self.new + 1) }
+    fn take_line(&mut self, fields: &mut Fields) -> Result<(), Barred>
+        ensures does { taken (state self.old) (outcome fields.old.given (here fields.old)) ≡ placed_by result (state self.new) }
         ensures behind { later fields.new ≡ later fields.old }
         ensures number { fields.new.line ≡ fields.old.line }
     {
         let line = read_line(fields)?;
-        self.place(awaited, line)
+        self.place(line)
     }
 }
 
@@ -51,19 +48,18 @@ impl Draft {
 fn gather(text: &[u8]) -> Result<Draft, Refusal>
     ensures { gathered result ≡ check 1 start (lines text.now) }
 {
-    let mut draft = Draft::empty();
     let mut scopes = [0u8; 1025];
-    let mut awaited = Stack::new(&mut scopes);
+    let mut gathering = Gathering::new(&mut scopes);
     let mut fields = Fields::new(text);
     while let Some(line) = fields.next_line() {
-        draft
-            .take_line(&mut fields, &mut awaited)
+        gathering
+            .take_line(&mut fields)
             .map_err(|barred| barred.at(line))?;
     }
-    if awaited.is_empty() {
-        return Ok(draft);
+    if gathering.awaited.is_empty() {
+        return Ok(gathering.draft);
     }
-    Err(Barred::line(Cause::TextEnds).at(draft.listed.len() + 1))
+    Err(Barred::line(Cause::TextEnds).at(gathering.draft.listed.len() + 1))
 }
 
 // The book that a text is, by its lines and then by its calls.

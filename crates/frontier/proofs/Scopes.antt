@@ -8,7 +8,7 @@ use Rattle.machine.proofs.Frames.{Below, below_later, below_push, frame_push, sl
 use Rattle.machine.specs.Theorems.{RuleFits}
 use Rattle.machine.specs.Machine.{Frame, Answer, State, Tree as MachineTree, Step, upto, posed, Run, begin, next, Entry}
 use Rattle.machine.specs.Machine.{step_tell_lem, step_fail, step_conj, step_disj, step_fresh, step_call, step_branch, step_chain}
-use Rattle.machine.proofs.Lists.{each_append}
+use Rattle.book.proofs.Misfits.{each_append}
 use Rattle.machine.proofs.Shapes.{s_tell}
 use Rattle.machine.proofs.Waiting.{from}
 use Rattle.machine.proofs.Rules.{own_rules_fit_lem}

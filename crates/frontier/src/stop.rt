@@ -1,7 +1,7 @@
 // Why a step was not made.
 use bank::Refusal;
 
-#[derive(Clone, Copy)]
+#[derive(Clone, Copy, Debug, PartialEq, Eq)]
 pub enum Stop {
     // There are too few boxes.
     Nodes,

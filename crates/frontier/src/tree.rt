@@ -29,14 +29,14 @@ pub enum Tree {
 }
 
 // An answer: its store, and how many variables are in use there.
-#[derive(Clone, Copy)]
+#[derive(Clone, Copy, Debug, PartialEq, Eq)]
 pub struct Found {
     pub n: u16,
     pub store: u16,
 }
 
 // What one step gave, and whether it left nothing of the tree. An answer comes with either, and so does none: the two say all that there is.
-#[derive(Clone, Copy)]
+#[derive(Clone, Copy, Debug, PartialEq, Eq)]
 pub struct Stepped {
     pub answer: Option<Found>,
     pub ended: bool,
@@ -96,13 +96,9 @@ pub(crate) fn boxed(pool: &mut Vec<Box<Tree>>, t: Tree) -> Box<Tree>
     ensures len { vec_len pool.new + 1 ≡ vec_len pool.old }
     ensures cap { vec_capacity pool.new ≡ vec_capacity pool.old }
 {
-    match pool.pop() {
-        Some(mut b) => {
-            *b = t;
-            b
-        }
-        None => unreachable(),
-    }
+    let mut b = pool.pop().unwrap();
+    *b = t;
+    b
 }
 
 // Takes the root's boxes into the pool, where only leaves are below it.
@@ -138,7 +134,7 @@ pub fn let_go<B: Bank>(bank: &mut B, store: u16)
     requires { (B.Bank.view.meaning bank.old).live store ≡ true }
     ensures { Released (B.Bank.view.meaning bank.old) (B.Bank.view.meaning bank.new) store }
 {
-    let _ = bank.release(store);
+    bank.release(store).unwrap();
 }
 
 // Releases all stores of a tree, and takes its boxes into the pool.

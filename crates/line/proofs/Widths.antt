@@ -5,6 +5,7 @@ use Rattle.std.specs.Fmt.{signed_decimal}
 use Rattle.std.proofs.lemmas.List.{length-append}
 use Rattle.std.proofs.lemmas.Fmt.{length-decimal-le, length_signed_le}
 use Rattle.numeral.specs.Reads.{size}
+use Rattle.numeral.proofs.Numbers.{mag_le_size}
 use Rattle.fields.specs.Cutting.{comma, joined}
 use Rattle.line.specs.Statements.{Statement, a_rule, a_tell, an_and, an_or, a_new, a_call, words, AllSlots, InRange}
 
@@ -15,10 +16,6 @@ slots_short f (s ∷ ss) a =
     let d = length-decimal-le 2 s (omega arith) (omega arith) (omega arith) in
     let h = slots_short (decimal s) ss a.1 in
     omega (arith, length-append f (comma ∷ joined (decimal s ∷ map decimal ss)))
-
-mag_le_size : (z : ℤ) → mag z ≤ size z
-mag_le_size (pos n) = omega arith
-mag_le_size (negsuc n) = omega arith
 
 -- a line has at most 55 bytes
 pub words_short : (s : Statement) → InRange s → length (joined (words s)) ≤ 55

@@ -1,5 +1,5 @@
 // How a line is read: its word first, then the count of its fields, then its numbers from left to right.
-ghost use Rattle.std.specs.Prelude.{◌≡◌, ◌≤◌, true, [], length, IfOk, OnOk};
+ghost use Rattle.std.specs.Prelude.{◌≡◌, ◌≤◌, true, [], length, OnOk};
 ghost use Rattle.fields.specs.Cursor.{here};
 ghost use Rattle.line.specs.Moves.{Next, Stays};
 ghost use Rattle.line.specs.Reading.{answered, slotted, takes, number_of, signed_of, first_word, first_number, first_signed, as_slots, ruled, called, told, numbered, outcome, Exact};
@@ -19,18 +19,17 @@ fn no_number(field: Field) -> Fault
 }
 
 // The number from 0 to `max` that `field` writes.
-fn number_of(field: Field, max: u32) -> Result<u32, Fault>
-    ensures does { result ≡ number_of max field.entry.number field.entry.bytes.now }
-    ensures within { IfOk result (λ v. v ≤ max) }
+fn number_of(field: Field, max: u8) -> Result<u8, Fault>
+    ensures { result ≡ number_of max field.entry.number field.entry.bytes.now }
 {
-    number(field.bytes, max).ok_or(no_number(field))
+    let n = number(field.bytes, max as u32).ok_or(no_number(field))?;
+    Ok(n as u8)
 }
 
 // The next field, as a number from 0 to `max`. This, `next_signed` and `next_word` are one shape, but as one function over a closure it would
 // have to pass on what the closure asks and gives, which is longer than their two lines.
-fn next_number(fields: &mut Fields, max: u32) -> Result<u32, Fault>
+fn next_number(fields: &mut Fields, max: u8) -> Result<u8, Fault>
     ensures does { result ≡ first_number max fields.old.given (here fields.old) }
-    ensures within { IfOk result (λ v. v ≤ max) }
     ensures next { OnOk result (Next fields.old fields.new) }
     ensures rest { Stays fields.old fields.new }
 {
@@ -58,14 +57,6 @@ fn next_signed(fields: &mut Fields, max: u16) -> Result<i16, Fault>
     signed_of(field, max)
 }
 
-// The slot that `field` names.
-fn slot_of(field: Field) -> Result<u8, Fault>
-    ensures { result ≡ number_of 15 field.entry.number field.entry.bytes.now }
-{
-    let slot = number_of(field, 15)?;
-    Ok(slot as u8)
-}
-
 // All that is left of the line, as slots.
 fn next_slots<const N: usize>(fields: &mut Fields) -> Result<Row<u8, N>, Fault>
     requires { length (here fields.old) ≤ N }
@@ -74,7 +65,7 @@ fn next_slots<const N: usize>(fields: &mut Fields) -> Result<Row<u8, N>, Fault>
 {
     let mut slots = Row::new(0);
     while let Some(field) = fields.next() {
-        slots.push(slot_of(field)?);
+        slots.push(number_of(field, 15)?);
     }
     Ok(slots)
 }
@@ -85,9 +76,7 @@ fn rule_line(fields: &mut Fields) -> Result<Line, Fault>
     ensures rest { Stays fields.old fields.new }
 {
     let params = next_number(fields, 16)?;
-    Ok(Line::Rule {
-        params: params as u8,
-    })
+    Ok(Line::Rule { params })
 }
 
 // Behind the word `call`: the rule, and the slots for its parameters.
@@ -96,7 +85,7 @@ fn call_line(fields: &mut Fields) -> Result<Line, Fault>
     ensures does { answered result ≡ called fields.old.given (here fields.old) }
     ensures rest { Stays fields.old fields.new }
 {
-    let rule = next_number(fields, 63)? as u8;
+    let rule = next_number(fields, 63)?;
     let slots = next_slots(fields)?;
     Ok(Line::Call(Call { rule, slots }))
 }
@@ -107,7 +96,7 @@ fn tell_line(fields: &mut Fields) -> Result<Line, Fault>
     ensures does { answered result ≡ told fields.old.given (here fields.old) }
     ensures rest { Stays fields.old fields.new }
 {
-    let code = next_number(fields, 255)? as u8;
+    let code = next_number(fields, 255)?;
     let k = next_signed(fields, 1000)?;
     let slots = next_slots(fields)?;
     Ok(Line::Tell(Tell { code, k, slots }))

@@ -1,9 +1,10 @@
 // The six words, and how many fields each takes.
-ghost use Rattle.std.specs.Prelude.{◌≡◌};
+ghost use Rattle.std.specs.Prelude.{◌≡◌, false};
 ghost use Rattle.line.specs.Reading.{unless, word_of, least, most, takes};
 ghost use Rattle.line.specs.declared.Fault.TheVariants.{UnknownWord};
 
 use super::{Fault, Word};
+use std::ops::RangeInclusive;
 
 impl TryFrom<&[u8]> for Word {
     type Error = Fault;
@@ -25,26 +26,15 @@ impl TryFrom<&[u8]> for Word {
 }
 
 impl Word {
-    // How few fields may stand behind the word.
-    fn least(self) -> usize
-        ensures { result ≡ least self }
+    // How many fields may stand behind the word.
+    fn fields(self) -> RangeInclusive<usize>
+        ensures { result ≡ record { start = least self; end = most self; exhausted = false } }
     {
         match self {
-            Word::Rule | Word::Call => 1,
-            Word::And | Word::Or | Word::New => 0,
-            Word::Tell => 2,
-        }
-    }
-
-    // How many may.
-    fn most(self) -> usize
-        ensures { result ≡ most self }
-    {
-        match self {
-            Word::Rule => 1,
-            Word::And | Word::Or | Word::New => 0,
-            Word::Call => 17,
-            Word::Tell => 5,
+            Word::Rule => 1..=1,
+            Word::And | Word::Or | Word::New => 0..=0,
+            Word::Call => 1..=17,
+            Word::Tell => 2..=5,
         }
     }
 
@@ -52,6 +42,6 @@ impl Word {
     pub fn takes(self, count: usize) -> bool
         ensures { result ≡ takes self count }
     {
-        self.least() <= count && count <= self.most()
+        self.fields().contains(&count)
     }
 }

@@ -5,7 +5,8 @@ use Rattle.book.specs.Language.{Rule, Rules, Each}
 use Rattle.machine.specs.Machine.{Side, Answer, Tree, State, Step, Entry, Run, begin, next, posed, upto, noted}
 use Rattle.machine.specs.Derivations.{weight, choices, solutions, Occurs}
 use Rattle.machine.specs.Theorems.{FoundOnce, Complete}
-use Rattle.machine.proofs.Lists.{each_append, some_not_none}
+use Rattle.book.proofs.Misfits.{each_append}
+use Rattle.machine.proofs.Lists.{some_not_none}
 use Rattle.machine.proofs.Shapes.{leads, leads_choices}
 use Rattle.machine.proofs.Waiting.{from, Waits, at_leaf, Gives, given, Remains, still, waited_given, waited_left, waits_positive, nearer}
 use Rattle.machine.proofs.Separate.{Apart, SeparateLeft, step_apart, step_separate}

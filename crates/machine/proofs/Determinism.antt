@@ -5,7 +5,8 @@ use Rattle.bank.specs.Kinds.{Kind}
 use Rattle.book.specs.Language.{Rule, Rules, Each}
 use Rattle.machine.specs.Machine.{Answer, Tree, State, Step, Entry, Run, turn, taken_up, noted}
 use Rattle.machine.specs.Machine.{step_tell_lem, step_fail, step_conj, step_disj, step_fresh, step_call, step_branch, step_chain, begin, next}
-use Rattle.machine.proofs.Lists.{each_append, each_map, some_not_none}
+use Rattle.book.proofs.Misfits.{each_append}
+use Rattle.machine.proofs.Lists.{each_map, some_not_none}
 use Rattle.machine.specs.Theorems.{till, Agree, Deterministic, Dated}
 
 -- a tree has one step

@@ -5,7 +5,8 @@ use Rattle.bank.specs.Kinds.{Value, number, Assignment}
 use Rattle.book.specs.Language.{Each}
 use Rattle.machine.specs.Machine.{Frame, vars_of_lem}
 use Rattle.machine.specs.Derivations.{values_of}
-use Rattle.machine.proofs.Lists.{each_append, each_map, each_get_d}
+use Rattle.book.proofs.Misfits.{each_append}
+use Rattle.machine.proofs.Lists.{each_map, each_get_d}
 
 -- Each number is below n.
 abbrev pub Below : ℕ → List ℕ → Type 0

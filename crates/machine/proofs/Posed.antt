@@ -5,7 +5,8 @@ use lib.Seq.{take-length}
 use Rattle.bank.specs.Kinds.{Value, number, Kind, Assignment, Solves}
 use Rattle.machine.specs.Machine.{upto}
 use Rattle.machine.specs.Derivations.{AllAdmitted}
-use Rattle.machine.proofs.Lists.{each_append, each_get_d}
+use Rattle.book.proofs.Misfits.{each_append}
+use Rattle.machine.proofs.Lists.{each_get_d}
 use Rattle.machine.proofs.Frames.{Below, below_push, frame_push}
 use Rattle.machine.proofs.Solutions.{solves_start, wide_split, wide_join}
 use Rattle.machine.proofs.Values.{Local, wide_local}

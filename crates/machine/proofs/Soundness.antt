@@ -6,7 +6,8 @@ use Rattle.book.specs.Language.{Rule, Rules, WellFormed, Each}
 use Rattle.machine.specs.Machine.{Answer, State, Entry, Run, begin, next, posed, upto}
 use Rattle.machine.specs.Derivations.{AllAdmitted, solutions, Occurs}
 use Rattle.machine.specs.Theorems.{RuleFits, Derived, Sound}
-use Rattle.machine.proofs.Lists.{each_append, each_map}
+use Rattle.book.proofs.Misfits.{each_append}
+use Rattle.machine.proofs.Lists.{each_map}
 use Rattle.machine.proofs.Shapes.{leads_choices}
 use Rattle.machine.proofs.Solutions.{solves_back}
 use Rattle.machine.proofs.Waiting.{from, Waits, at_leaf, given, Remains, still, waited_given, waited_left}

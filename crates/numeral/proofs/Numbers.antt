@@ -72,7 +72,7 @@ signed_reads max bs = joined (as_number max bs) (number_reads max bs)
     joined None p = both_signs max bs (as_negative max bs) p (negative_reads max bs)
     joined (Some n) p = p
 
-mag_le_size : (z : ℤ) → mag z ≤ size z
+pub mag_le_size : (z : ℤ) → mag z ≤ size z
 mag_le_size (pos n) = omega arith
 mag_le_size (negsuc n) = omega arith
 

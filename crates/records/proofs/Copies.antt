@@ -47,10 +47,3 @@ module _ {R : Type 0} (Alike : R → R → Type 0) (Sound : R → Type 0) (solut
         copied from to slots (set front to (holding r (get_or front to p)) ++ back) r p q l m
         (subst (λ (s : Slot R). Alike s.record r) (sym source) alike) sound (λ σ. same σ ∙ ap (λ (s : Slot R). solutions s.record σ) (sym source))
         (sym (ap (λ (xs : List (Slot R)). set xs to y) split ∙ set-append_left front back to y (omega arith) ∙ ap (λ (s : Slot R). set front to (holding r s) ++ back) target))
-
--- what stands in a row of places whose front was copied from another's
-pub copied_front : {A : Type 0} (n : ℕ) (xs ys rest zs : List A) (d : A) → n ≤ length xs → ys ≡ take (n - 0) xs → zs ≡ ys ++ rest → (a : ℕ) → a < n → get_or zs a d ≡ get_or xs a d
-copied_front {A} n xs ys rest zs d few is eq a h =
-    let front : ys ≡ take n xs = is ∙ ap (λ (k : ℕ). take k xs) (omega arith) in
-    let many : length ys ≡ n = ap length front ∙ length-take n xs ∙ omega (arith, few) in
-    ap (λ (l : List A). get_or l a d) eq ∙ get_or_append_left ys rest d a (omega (arith, many, h)) ∙ ap (λ (l : List A). get_or l a d) front ∙ get_or-take n xs a d h

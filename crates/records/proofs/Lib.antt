@@ -1,3 +1,4 @@
+pub mod Reaching
 pub mod Places
 pub mod Counts
 pub mod Listings

@@ -1,5 +1,5 @@
 -- A store that begins on a shelf, and one that ends. Assumes nothing.
-use Rattle.std.proofs.Common.{◌≡◌, ℕ, ◌<◌, ◌≤◌, false, List, [], ◌∷◌, ◌++◌, length, get_or, set, Some, None, Option, count_by, sym, refl, ap, ◌∙◌, subst, arith, length-set}
+use Rattle.std.proofs.Common.{◌≡◌, ℕ, ◌<◌, false, List, [], ◌∷◌, ◌++◌, length, get_or, set, Some, None, Option, sym, refl, ap, ◌∙◌, subst, arith, length-set}
 use Rattle.std.proofs.lemmas.List.{length_push}
 use Rattle.std.specs.Prelude.{MatchOption}
 use Rattle.row.specs.Items.{items, Last}
@@ -7,7 +7,7 @@ use Rattle.bank.specs.Kinds.{Assignment, Solutions}
 use Rattle.bank.specs.Calls.{Added}
 use Rattle.records.specs.declared.slots.Slot.{Slot}
 use Rattle.records.specs.declared.shelf.Shelf.{Shelf}
-use Rattle.records.specs.Slots.{idle, live_at, means, holding, begun, Written, Listing, Listed, Keeps}
+use Rattle.records.specs.Slots.{live_at, means, holding, begun, Written, Listing, Listed}
 use Rattle.records.proofs.Listings.{listing_of, last_within, last_free}
 use Rattle.records.proofs.Orders.{Orderly, taken_within, taken_free, orderly_begun}
 use Rattle.records.proofs.Places.{written, written_then}

@@ -1,4 +1,5 @@
-// A row of at most N elements that lies where it is declared: what a Vec is where nothing may be allocated. It is copied as a whole.
+// A row of at most N elements that lies where it is declared: what a Vec is where nothing may be allocated. It is copied as a whole, which
+// the kit's ArrayVec is not.
 #![tactic(auto)]
 
 ghost use Rattle.std.specs.Prelude.{◌≡◌, ◌≤◌, ⊤, length};
@@ -15,6 +16,7 @@ pub struct Row<T, const N: usize> {
     ghost few: { len ≤ N },
 }
 
+// By hand, since none is derived for a struct with a ghost field.
 impl<T: Copy, const N: usize> Clone for Row<T, N> {
     ghost is_clone = { λ x y. y ≡ x };
 

@@ -11,7 +11,7 @@ use Rattle.machine.specs.Theorems.{RuleFits}
 use Rattle.machine.specs.Machine.{Side, State, Run, begin, next, Entry, upto}
 use Rattle.machine.specs.Derivations.{weight, choices, Occurs, solutions}
 use Rattle.machine.specs.Theorems.{till}
-use Rattle.machine.proofs.Lists.{each_append}
+use Rattle.book.proofs.Misfits.{each_append}
 use Rattle.machine.proofs.Determinism.{agree}
 use Rattle.machine.proofs.Completeness.{complete}
 use Rattle.machine.proofs.Soundness.{sound}

@@ -2,8 +2,8 @@ pub mod Along
 pub mod Advance
 pub mod Runs
 pub mod Posing
-pub mod Unknowns
 pub mod Refused
 pub mod Reached
 pub mod Before
 pub mod Both
+pub mod Unknowns

@@ -9,6 +9,7 @@
 --   Same        the search is as it was
 --   NewDoes, PoseDoes, RunDoes, WriteDoes, TakeDoes
 --               the calls, by their answers
+--   Waits       the answer that waits, or why there is none
 --   nodes       how many nodes the machine has left
 --   Crowded     the next step leaves over 1,024 nodes, and Roomy: it does not
 --   Barred      why the machine's next step cannot be made
@@ -351,6 +352,11 @@ TakeRefused s (NoVariable h) = ⊥
 TakeRefused s (NoStore h e) = ⊥
 TakeRefused s ShortBuffer = ⊥
 TakeRefused s (LineTooLong o) = ⊥
+
+-- the answer that waits
+abbrev pub Waits : {S : Type 0} → Search S → Result Found Refusal → Type 0
+Waits s (Ok x) = (s.posed ≡ true) × (s.waiting ≡ Some x)
+Waits s (Err e) = TakeRefused s e
 
 abbrev pub TakeDoes : {S : Type 0} → View S → Search S → Result (Unit {0}) Refusal → Search S → Type 0
 TakeDoes v s (Ok u) t = Takes v s t

@@ -1,14 +1,13 @@
--- The first line with a tell that a bank does not know. Assumes nothing.
+-- The lines with a tell that a bank does not know. Assumes nothing.
 --
---   Unknown        the first line, among some goals
---   UnknownOf      there is such a line, or each goal is known
---   FirstUnknown   so of a whole book
---   first_line     the first of some lines and another
-use Rattle.std.specs.Prelude.{◌≡◌, ℕ, ◌<◌, ◌≤◌, min, false, List, length, Some, None, Option}
+--   Unknown         the first of them, among some goals
+--   unknown_lines   all of a book, goal by goal
+use Rattle.std.specs.Prelude.{◌≡◌, ℕ, ◌<◌, ◌≤◌, false, not, map, List, length}
+use Rattle.std.specs.List.{filter, range_with_len}
 use Rattle.bank.specs.Kinds.{Kind}
 use Rattle.book.specs.declared.Node.{Node}
 use Rattle.book.specs.Table.{line_at}
-use Rattle.frontier.specs.Books.{knows_at, Known}
+use Rattle.frontier.specs.Books.{knows_at}
 
 -- of the first n
 pub record Unknown (K : Kind) (ns : List Node) (n line : ℕ) : Type 0 where
@@ -18,13 +17,5 @@ pub record Unknown (K : Kind) (ns : List Node) (n line : ℕ) : Type 0 where
   pub its_line : line_at ns place ≡ line
   pub first : (i : ℕ) → i < n → knows_at K ns i ≡ false → line ≤ line_at ns i
 
-abbrev pub UnknownOf : Kind → List Node → ℕ → Option ℕ → Type 0
-UnknownOf K ns n None = Known K ns n
-UnknownOf K ns n (Some line) = Unknown K ns n line
-
-abbrev pub FirstUnknown : Kind → List Node → Option ℕ → Type 0
-FirstUnknown K ns r = UnknownOf K ns (length ns) r
-
-abbrev pub first_line : Option ℕ → ℕ → Option ℕ
-first_line None line = Some line
-first_line (Some l) line = Some (min l line)
+abbrev pub unknown_lines : Kind → List Node → List ℕ
+unknown_lines K ns = map (λ (i : ℕ). line_at ns i) (filter (λ (i : ℕ). not (knows_at K ns i)) (range_with_len 0 (length ns)))

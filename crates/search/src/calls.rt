@@ -1,10 +1,11 @@
 // Making a search, posing a rule, and taking an answer.
-ghost use Rattle.std.specs.Prelude.{◌≡◌, ◌+◌, true, None, IfOk, is_none};
+ghost use Rattle.std.specs.Prelude.{◌≡◌, min, true, None, IfOk, is_none};
+ghost use Rattle.std.specs.List.{reduce};
 ghost use Rattle.book.specs.Meaning.{book_nodes};
 ghost use Rattle.frontier.specs.Books.{known};
-ghost use Rattle.search.specs.Unknowns.{first_line, FirstUnknown};
+ghost use Rattle.search.specs.Unknowns.{unknown_lines};
 ghost use Rattle.search.specs.Parts.{tree_of};
-ghost use Rattle.search.specs.Calls.{NoneLeft, NewDoes, PoseDoes, WriteDoes, TakeDoes, Holding, Emptied};
+ghost use Rattle.search.specs.Calls.{NoneLeft, NewDoes, PoseDoes, WriteDoes, TakeDoes, Waits, Holding, Emptied};
 
 use super::refusal::Refusal;
 use super::{NoMemory, Search};
@@ -24,21 +25,14 @@ fn knows<B: Bank>(bank: &B, form: Form) -> bool
     }
 }
 
-// The first of some lines and another.
-fn earlier(first: Option<u16>, line: u16) -> Option<u16>
-    ensures { result ≡ first_line first line }
-{
-    Some(first.map_or(line, |l| l.min(line)))
-}
-
 // The first line with a tell that the bank does not know. Goals stand in the table behind those below them, so all are read.
 fn unknown_tell<B: Bank>(bank: &B, book: &Book) -> Option<u16>
-    ensures { FirstUnknown B.Bank.view.kind (book_nodes book.now) result }
+    ensures { result ≡ reduce min (unknown_lines B.Bank.view.kind (book_nodes book.now)) }
 {
     (0..book.goal_count() as u16)
         .filter(|&goal| !knows(bank, book.form(goal)))
         .map(|goal| book.line(goal))
-        .fold(None, earlier)
+        .min()
 }
 
 // Releases all that a search holds. It takes the parts: until another rule is posed, they make no search.
@@ -118,14 +112,21 @@ impl<B: Bank> Search<B> {
         Ok(())
     }
 
-    // Puts the texts of the answer that waits, parted by commas, at the front of a buffer, and answers the line's length.
-    pub fn write(&self, buffer: &mut [u8]) -> Result<usize, Refusal>
-        ensures { WriteDoes B.Bank.view self.now buffer.old result buffer.new }
+    // The answer that waits.
+    fn answer(&self) -> Result<Found, Refusal>
+        ensures { Waits self.now result }
     {
         if !self.posed {
             return Err(Refusal::NothingPosed);
         }
-        let found = self.waiting.ok_or(Refusal::NoAnswer)?;
+        self.waiting.ok_or(Refusal::NoAnswer)
+    }
+
+    // Puts the texts of the answer that waits, parted by commas, at the front of a buffer, and answers the line's length.
+    pub fn write(&self, buffer: &mut [u8]) -> Result<usize, Refusal>
+        ensures { WriteDoes B.Bank.view self.now buffer.old result buffer.new }
+    {
+        let found = self.answer()?;
         if buffer.len() < 1024 {
             return Err(Refusal::ShortBuffer);
         }
@@ -138,10 +139,7 @@ impl<B: Bank> Search<B> {
         ensures does { TakeDoes B.Bank.view self.old result self.new }
         ensures none_left { NoneLeft B.Bank.view self.old self.new }
     {
-        if !self.posed {
-            return Err(Refusal::NothingPosed);
-        }
-        let taken = self.waiting.ok_or(Refusal::NoAnswer)?;
+        let taken = self.answer()?;
         let_go(&mut self.bank, taken.store);
         self.waiting = None;
         Ok(())

@@ -61,7 +61,7 @@ pub struct NoMemory<B> {
 }
 
 // Why a run stopped.
-#[derive(Clone, Copy)]
+#[derive(Clone, Copy, Debug, PartialEq, Eq)]
 pub enum Outcome {
     // It waits until it is taken.
     Answer(Found),
@@ -72,7 +72,7 @@ pub enum Outcome {
 }
 
 // The steps that a run made, and all steps since the pose.
-#[derive(Clone, Copy)]
+#[derive(Clone, Copy, Debug, PartialEq, Eq)]
 pub struct Ran {
     pub outcome: Outcome,
     pub steps: u32,

@@ -8,14 +8,14 @@ use bank::Refusal as BankRefusal;
 use frontier::Stop;
 
 // Where a run was when its next step could not be made: its steps, those since the pose, and the line of the goal.
-#[derive(Clone, Copy)]
+#[derive(Clone, Copy, Debug, PartialEq, Eq)]
 pub struct Halt {
     pub steps: u32,
     pub total: u32,
     pub line: u16,
 }
 
-#[derive(Clone, Copy)]
+#[derive(Clone, Copy, Debug, PartialEq, Eq)]
 pub enum Refusal {
     NoSuchRule,
     // The bank does not know the code of a tell, or not with so many variables: the first such line.

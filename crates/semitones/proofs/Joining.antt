@@ -5,8 +5,7 @@ use Rattle.std.proofs.lemmas.Int.{ints}
 use Rattle.std.proofs.lemmas.Bool.{eq-eqb, ne_eqb, cases_eq}
 use Rattle.bank.specs.Kinds.{Assignment}
 use Rattle.semitones.specs.declared.cells.Cell.{Cell}
-use Rattle.semitones.specs.declared.cells.Record.{Record}
-use Rattle.semitones.specs.Cells.{node, cell_of, root_of_lem, by_of, tied, solves, Sound}
+use Rattle.semitones.specs.Cells.{Record, node, cell_of, root_of_lem, by_of, tied, solves, Sound}
 use Rattle.semitones.specs.Joins.{Moved}
 use Rattle.semitones.specs.laws.Solves.{solves_from, solves_admits, solves_at}
 use Rattle.semitones.proofs.Moving.{moved_in, moved_out}

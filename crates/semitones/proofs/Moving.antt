@@ -1,10 +1,9 @@
--- One class put under another, cell by cell, and cells taken into use. Assumes nothing.
-use Rattle.std.proofs.Common.{◌≡◌, ℕ, ◌+◌, ◌<◌, ◌≤◌, cond, eqb, List, length, get_or, set, ℤ, pos, ◌+ℤ◌, sym, ap, ◌∙◌, subst, ⊎_elim, arith}
+-- One class put under another, cell by cell. Assumes nothing.
+use Rattle.std.proofs.Common.{◌≡◌, ℕ, ◌+◌, ◌<◌, ◌≤◌, cond, eqb, List, length, get_or, set, ℤ, ◌+ℤ◌, sym, ap, ◌∙◌, subst, ⊎_elim, arith}
 use Rattle.std.proofs.lemmas.List.{get_or-set_same, get_or-set_other}
 use Rattle.std.proofs.lemmas.Bool.{cases_lt, cases_eq, eq-eqb, ne_eqb, cond-true, cond-false}
 use Rattle.semitones.specs.declared.cells.Cell.{Cell}
-use Rattle.semitones.specs.declared.cells.Record.{Record}
-use Rattle.semitones.specs.Cells.{no_cell, cell_of}
+use Rattle.semitones.specs.Cells.{Record, no_cell, cell_of}
 use Rattle.semitones.specs.Joins.{Same, Moved}
 use Rattle.semitones.specs.laws.Solves.{cell_in, cell_out}
 
@@ -57,18 +56,6 @@ moving_all from to gap r s used done few inside = record {
       let own = cell_out r a h in
       cell_out s a (omega (arith, used)) ∙ sym own ∙ sym (moved_out from to gap (cell_of r a) (λ e. let q : a ≡ from = sym (ap (λ (c : Cell). c.root) own) ∙ e in omega arith)))
       (cases_lt a r.used);
-}
-
--- more nodes are taken into use, each where it lies
-pub same_taken : (r s : Record) → r.used ≤ s.used → s.used ≤ 257
-    → ((a : ℕ) → a < r.used → get_or s.cells a no_cell ≡ get_or r.cells a no_cell) → ((a : ℕ) → r.used ≤ a → a < s.used → get_or s.cells a no_cell ≡ record { root = a; by = pos 0 })
-    → Same r s
-same_taken r s more few kept own = record {
-  few = few;
-  cells = λ a. ⊎_elim
-      (λ (h : a < s.used). cell_in s a h ∙ ⊎_elim (λ (k : a < r.used). kept a k ∙ sym (cell_in r a k)) (λ (k : r.used ≤ a). own a k h ∙ sym (cell_out r a k)) (cases_lt a r.used))
-      (λ (h : s.used ≤ a). cell_out s a h ∙ sym (cell_out r a (omega arith)))
-      (cases_lt a s.used);
 }
 
 pub moved_as : (from to : ℕ) (x g : ℤ) (r s : Record) → x ≡ g → Moved from to x r s → Moved from to g r s

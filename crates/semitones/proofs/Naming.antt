@@ -1,8 +1,7 @@
 -- The text of a variable, by its cell. Assumes nothing.
 use Rattle.std.proofs.Common.{◌≡◌, ℕ, zero, suc, ◌+◌, ◌-◌, ◌∷◌, ◌++◌, ℤ, decimal, sym, refl, ap, ◌∙◌, add-one, arith}
 use Rattle.std.specs.Fmt.{signed_decimal}
-use Rattle.semitones.specs.declared.cells.Record.{Record}
-use Rattle.semitones.specs.Cells.{root_of_lem, by_of, apart, named, shown}
+use Rattle.semitones.specs.Cells.{Record, root_of_lem, by_of, apart, named, shown}
 
 module _ (r : Record) (v ρ : ℕ) (z : ℤ) (er : ρ ≡ root_of_lem r (v + 1)) (ez : z ≡ by_of r (v + 1)) where
   shown_is : named ρ z ≡ shown r v

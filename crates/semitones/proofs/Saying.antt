@@ -5,9 +5,8 @@ use Rattle.bank.specs.Kinds.{number, Assignment, Solutions}
 use Rattle.records.specs.declared.slots.Slot.{Slot}
 use Rattle.records.specs.Slots.{live_at}
 use Rattle.records.proofs.Places.{live_within, noted_is}
-use Rattle.semitones.specs.declared.cells.Record.{Record}
 use Rattle.semitones.specs.Whole.{number_of}
-use Rattle.semitones.specs.Cells.{node, root_of_lem, by_of, solves, named, shown, stores, Sound}
+use Rattle.semitones.specs.Cells.{Record, node, root_of_lem, by_of, solves, named, shown, stores, Sound}
 use Rattle.semitones.specs.Says.{Says, a_number, a_name}
 use Rattle.semitones.specs.laws.Solves.{solves_at, solves_number}
 use Rattle.semitones.specs.laws.Canon.{one_root}

@@ -12,9 +12,8 @@ use Rattle.records.specs.Slots.{live_at, holding}
 use Rattle.records.proofs.Places.{live_is, live_within}
 use Rattle.records.proofs.Writes.{unchanged, kept_all, accepted}
 use Rattle.semitones.specs.declared.cells.Edge.{Edge}
-use Rattle.semitones.specs.declared.cells.Record.{Record}
 use Rattle.semitones.specs.Whole.{whole}
-use Rattle.semitones.specs.Cells.{solves, shown, stores, Sound}
+use Rattle.semitones.specs.Cells.{Record, solves, shown, stores, Sound}
 use Rattle.semitones.specs.Edges.{Edge-of}
 use Rattle.semitones.specs.Joins.{says, Joins}
 use Rattle.semitones.specs.laws.Solves.{given, given_solves}

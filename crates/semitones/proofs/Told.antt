@@ -5,8 +5,7 @@ use Rattle.std.proofs.lemmas.Int.{ints}
 use Rattle.std.proofs.lemmas.Bool.{and_parts, and_from, cases_Bool}
 use Rattle.bank.specs.Kinds.{Assignment}
 use Rattle.semitones.specs.declared.cells.Edge.{Edge}
-use Rattle.semitones.specs.declared.cells.Record.{Record}
-use Rattle.semitones.specs.Cells.{node, root_of_lem, by_of, solves, Sound}
+use Rattle.semitones.specs.Cells.{Record, node, root_of_lem, by_of, solves, Sound}
 use Rattle.semitones.specs.Joins.{Moved, says, Held, Joined, Refused}
 use Rattle.semitones.specs.laws.Solves.{solves_at, eq_z_true, eq_eq_z}
 use Rattle.semitones.proofs.Joining.{s_sound, forth, back_again}

@@ -1,5 +1,7 @@
 -- What a record of cells means. Assumes nothing.
 --
+--   Record    the record of a store
+--   lone      the cell of a node that is not in use
 --   node      the value of a node: node 0 is the number 0, and node v + 1 the variable v
 --   root_of_lem   the lowest node of a node's class
 --   by_of     how far a node lies above that one
@@ -10,16 +12,23 @@
 --   stores    the meaning of slots
 --   tied      how many of the nodes below n have a root (for private contracts, as is the next)
 --   Sound     what every store's record keeps
-use Rattle.std.specs.Prelude.{◌≡◌, ℕ, zero, suc, ◌+◌, ◌*◌, ◌<◌, ◌≤◌, true, cond, ◌&&◌, List, [], ◌∷◌, ◌++◌, ℤ, pos, negsuc, ◌+ℤ◌, ◌≤ℤ◌, decimal, ◌==◌, nat_lt, slice_index_or}
+use Rattle.std.specs.Prelude.{◌≡◌, ℕ, zero, suc, ◌+◌, ◌*◌, ◌<◌, ◌≤◌, true, cond, ◌&&◌, List, [], ◌∷◌, ◌++◌, ℤ, pos, negsuc, ◌+ℤ◌, ◌≤ℤ◌, decimal, ◌==◌}
 use Rattle.std.specs.Fmt.{signed_decimal}
 use Rattle.bank.specs.Kinds.{Assignment, Solutions, all_admitted}
 use Rattle.bank.specs.Views.{Meaning}
+use Rattle.records.specs.declared.cells.Record.{Record as RecordOf}
 use Rattle.records.specs.declared.slots.Slot.{Slot}
+use Rattle.records.specs.Cells.{cell_at}
 use Rattle.records.specs.Slots.{means}
 use Rattle.semitones.specs.Whole.{whole, number_of}
 use Rattle.std.specs.Ordering.{int_eq}
 use Rattle.semitones.specs.declared.cells.Cell.{Cell}
-use Rattle.semitones.specs.declared.cells.Record.{Record}
+
+abbrev pub Record : Type 0
+Record = RecordOf Cell 257
+
+abbrev pub lone : ℕ → Cell
+lone a = record { root = a; by = pos 0 }
 
 abbrev pub node : Assignment → ℕ → ℤ
 node σ zero = pos 0
@@ -29,7 +38,7 @@ abbrev pub no_cell : Cell
 no_cell = record { root = 0; by = pos 0 }
 
 abbrev pub cell_of : Record → ℕ → Cell
-cell_of r a = cond (nat_lt a r.used) (slice_index_or r.cells a no_cell) (record { root = a; by = pos 0 })
+cell_of = cell_at lone
 
 abbrev pub root_of_lem : Record → ℕ → ℕ
 root_of_lem r a = (cell_of r a).root

@@ -14,9 +14,8 @@ use Rattle.bank.specs.declared.Refusal.{Refusal}
 use Rattle.bank.specs.declared.Refusal.TheVariants.{NotLive, NoSpare, BadConstraint, BadVariable, Contradiction, TextTooLong}
 use Rattle.bank.specs.Kinds.{Assignment, Solutions}
 use Rattle.semitones.specs.declared.cells.Edge.{Edge}
-use Rattle.semitones.specs.declared.cells.Record.{Record}
 use Rattle.std.specs.Ordering.{int_eq}
-use Rattle.semitones.specs.Cells.{node, cell_of, root_of_lem, by_of, solves, Sound}
+use Rattle.semitones.specs.Cells.{Record, node, cell_of, root_of_lem, by_of, solves, Sound}
 
 pub record Same (r s : Record) : Type 0 where
   pub few : s.used ≤ 257

@@ -3,9 +3,8 @@ use Rattle.std.specs.Prelude.{ℕ, List}
 use Rattle.bank.specs.Views.{View}
 use Rattle.records.specs.declared.slots.Slot.{Slot}
 use Rattle.records.specs.Slots.{Keeps}
-use Rattle.semitones.specs.declared.cells.Record.{Record}
 use Rattle.semitones.specs.Whole.{whole}
-use Rattle.semitones.specs.Cells.{stores, Sound}
+use Rattle.semitones.specs.Cells.{Record, stores, Sound}
 use Rattle.semitones.specs.laws.Laws.{laws}
 
 -- `laws` is a proof, and says nothing more

@@ -4,4 +4,5 @@ pub mod Bounds
 pub mod Canon
 pub mod Names
 pub mod Kept
+pub mod Blanks
 pub mod Laws

@@ -1,6 +1,9 @@
 // What a store is made of.
-ghost use Rattle.std.specs.Prelude.{◌≡◌, ◌<◌, ◌≤◌, length, ◌-ℤ◌, unsigned_abs};
+ghost use Rattle.std.specs.Prelude.{◌≡◌, ◌<◌, ◌≤◌, ◌-ℤ◌, unsigned_abs};
 ghost use Rattle.std.specs.Int.Signed.{mag};
+ghost use Rattle.semitones.specs.Cells.{lone};
+
+use records::Node;
 
 // Where a node lies: its class, by the class's lowest node, and how far above that one.
 #[derive(Clone, Copy)]
@@ -9,26 +12,16 @@ pub struct Cell {
     pub by: i32,
 }
 
-// A store. Node 0 is the number 0, and node v + 1 the variable v. Only the cells below `used` count: every later node is a class of its own.
-// That `used` is at most 257 is no fact of the type, since a lent slot may hold any record.
-#[derive(Clone, Copy)]
-pub struct Record {
-    pub used: u16,
-    pub cells: [Cell; 257],
-    ghost full: { length cells ≡ 257 },
-}
+impl Node for Cell {
+    ghost own = { lone };
 
-impl Record {
-    // A record for a slot to lend: each node is a class of its own.
-    pub fn new() -> Record
-        ensures { result.used ≡ 0 }
-    {
-        Record {
-            used: 0,
-            cells: [Cell { root: 0, by: 0 }; 257],
-        }
+    fn alone(node: u16) -> Cell {
+        Cell { root: node, by: 0 }
     }
 }
+
+// A store. Node 0 is the number 0, and node v + 1 the variable v.
+pub type Record = records::Record<Cell, 257>;
 
 // What a constraint says: node a lies k above node b.
 #[derive(Clone, Copy)]

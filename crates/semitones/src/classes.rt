@@ -1,37 +1,11 @@
-// Where nodes lie, and classes joined in place.
+// Classes joined in place.
 ghost use Rattle.std.specs.Prelude.{◌≡◌, ℕ, ◌<◌, ◌≤◌};
 ghost use Rattle.std.specs.Int.Signed.{mag};
-ghost use Rattle.semitones.specs.Cells.{root_of_lem, by_of, Sound};
-ghost use Rattle.semitones.specs.Joins.{Same, Moved, Joins};
+ghost use Rattle.semitones.specs.Cells.{by_of, Sound};
+ghost use Rattle.semitones.specs.Joins.{Moved, Joins};
 
-use crate::cells::{Cell, Edge, Record};
+use crate::cells::{Edge, Record};
 use bank::{Effect, Refusal};
-
-// Where a node lies.
-pub fn place(r: &Record, node: u16) -> Cell
-    requires within { node < 257 }
-    ensures root { result.root ≡ root_of_lem r.now node }
-    ensures by { result.by ≡ by_of r.now node }
-{
-    if node < r.used {
-        r.cells[node as usize]
-    } else {
-        Cell { root: node, by: 0 }
-    }
-}
-
-// Takes the nodes below `end` into use, where they lie.
-fn reach(r: &mut Record, end: u16)
-    requires few { r.old.used ≤ 257 }
-    requires within { end ≤ 257 }
-    ensures same { Same r.old r.new }
-    ensures reached { end ≤ r.new.used }
-{
-    for node in r.used..end {
-        r.cells[node as usize] = Cell { root: node, by: 0 };
-    }
-    r.used = r.used.max(end);
-}
 
 // Puts the class of `from` under `to`, where `from` lies `gap` above `to`.
 fn shift(r: &mut Record, from: u16, to: u16, gap: i32)
@@ -55,8 +29,8 @@ pub fn join(r: &mut Record, e: &Edge) -> Result<Effect, Refusal>
     requires sound { Sound r.old }
     ensures { Joins r.old r.new e.now result }
 {
-    let a = place(r, e.a);
-    let b = place(r, e.b);
+    let a = r.at(e.a);
+    let b = r.at(e.b);
     let gap = e.gap(a.by, b.by);
     if a.root == b.root {
         return if gap == 0 {
@@ -65,7 +39,7 @@ pub fn join(r: &mut Record, e: &Edge) -> Result<Effect, Refusal>
             Err(Refusal::Contradiction)
         };
     }
-    reach(r, e.a.max(e.b) + 1);
+    r.reach(e.a.max(e.b) + 1);
     if a.root < b.root {
         shift(r, b.root, a.root, gap);
     } else {

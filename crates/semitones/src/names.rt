@@ -2,10 +2,9 @@
 ghost use Rattle.std.specs.Prelude.{◌≡◌, ℕ, ◌<◌, ◌≤◌};
 ghost use Rattle.std.specs.Int.Signed.{mag};
 ghost use Rattle.texts.specs.Pieces.{Adds};
-ghost use Rattle.semitones.specs.Cells.{by_of, shown, apart};
+ghost use Rattle.semitones.specs.Cells.{shown, apart};
 
 use crate::cells::Record;
-use crate::classes::place;
 use texts::Writer;
 
 // Adds the distance from the variable that is named, after its sign, and nothing at distance 0.
@@ -25,7 +24,7 @@ pub fn write(r: &Record, var: u16, text: &mut Writer)
     requires within { var < 256 }
     ensures { Adds (shown r.now var) text.old text.new }
 {
-    let cell = place(r, var + 1);
+    let cell = r.at(var + 1);
     if cell.root == 0 {
         text.put_signed(cell.by);
     } else {

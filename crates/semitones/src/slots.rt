@@ -1,15 +1,14 @@
-// A record in the slot of a shelf. The cells that are not in use stay as they are.
-ghost use Rattle.std.specs.Prelude.{◌≡◌, ℕ};
+// What the records of a bank say to a shelf.
 ghost use Rattle.semitones.specs.Whole.{whole};
 ghost use Rattle.semitones.specs.Cells.{solves, shown, Sound};
-ghost use Rattle.semitones.specs.Joins.{Same};
+ghost use Rattle.semitones.specs.laws.Blanks.{few_used, begun, followed};
 
-use crate::cells::Record;
+use crate::cells::{Cell, Record};
 use crate::names::write;
-use records::Stored;
+use records::Sense;
 use texts::Writer;
 
-impl Stored for Record {
+impl Sense<257> for Cell {
     const V: u16 = 256;
 
     ghost V = { 256 };
@@ -22,20 +21,13 @@ impl Stored for Record {
 
     ghost sound = { Sound };
 
-    ghost alike = { Same };
-
-    fn write(&self, var: u16, writer: &mut Writer) {
-        write(self, var, writer);
+    fn write(r: &Record, var: u16, writer: &mut Writer) {
+        write(r, var, writer);
     }
 
-    fn clear(&mut self) {
-        self.used = 0;
-    }
+    ghost few = { few_used };
 
-    fn copy_from(&mut self, other: &Record) {
-        let used = other.used as usize;
-        // As `0..used`: behind a fact of the type, no rule covers a part lent as `..used`.
-        self.cells[0..used].copy_from_slice(&other.cells[0..used]);
-        self.used = other.used;
-    }
+    ghost begins = { begun };
+
+    ghost follows = { followed };
 }

@@ -3,7 +3,7 @@
 
 ghost use Rattle.std.specs.Prelude.{◌≡◌, ◌≤◌, [], length, ◌==◌};
 
-// The first `len` of the slots are in use, the newest element last.
+// Unlike a row, it has no room of its own, and gives its elements newest first. The first `len` of the slots are in use, the newest element last.
 #[derive(Drop)]
 pub struct Stack<'a, T> {
     slots: &'a mut [T],

@@ -7,16 +7,16 @@ use Rattle.bank.specs.declared.Refusal.{Refusal}
 use Rattle.bank.specs.declared.Refusal.TheVariants.{Contradiction}
 use Rattle.bank.specs.Kinds.{Assignment}
 use Rattle.records.specs.declared.slots.Slot.{Slot}
+use Rattle.records.specs.Cells.{Alike as Copy}
 use Rattle.records.specs.Slots.{live_at, Written, holding, Copied}
 use Rattle.records.proofs.Places.{written, written_then, written_here, written_there}
-use Rattle.trees.specs.declared.cells.Store.{Store}
 use Rattle.trees.specs.declared.tasks.Task.{Task}
-use Rattle.trees.specs.Stores.{solves, Alike, Copy}
+use Rattle.trees.specs.Stores.{Store, lone, solves, Alike}
 use Rattle.trees.specs.Values.{Sound}
 use Rattle.trees.specs.Tasks.{asks, Narrowed, Told}
 use Rattle.trees.specs.Meaning.{SoundAt, ToldAside, none, one, ToldAt}
 use Rattle.trees.specs.laws.All.{no_slot, record_at}
-use Rattle.trees.specs.laws.Shapes.{solves_alike}
+use Rattle.trees.specs.laws.Shapes.{alike_cells, solves_alike}
 
 -- a slot that is written as it was
 pub written_same : (slots : List (Slot Store)) (i : ℕ) → i < length slots → Written i (holding (record_at slots i)) slots slots
@@ -24,7 +24,7 @@ written_same slots i l past = sym (set-get_or slots i past) ∙ ap (λ (s : Slot
 
 -- the record of `store` is copied to `aside`
 module _ (slots : List (Slot Store)) (store aside : ℕ) (ls : store < length slots) (la : aside < length slots) (ne : store ≡ aside → ⊥) (S : SoundAt store slots) (t : Task)
-    (after : List (Slot Store)) (C : Copied Copy Sound solves store aside slots after) where
+    (after : List (Slot Store)) (C : Copied (Copy lone) Sound solves store aside slots after) where
   pub long : aside < length after
   long = subst (λ (xs : List (Slot Store)). aside < length xs) (sym (C.is no_slot)) (omega (arith, length-set slots aside (holding C.new (get_or slots aside no_slot))))
 
@@ -67,7 +67,7 @@ module _ (slots : List (Slot Store)) (store aside : ℕ) (ls : store < length sl
       told = λ d. record {
         same = sym (is_old d);
         never = λ σ. ap (λ (r : Store). solves r σ && asks t σ) (is_old d)
-            ∙ ap (λ (b : Bool). b && asks t σ) (sym (solves_alike (record_at slots store) C.new (C.alike no_slot).alike σ) ∙ ap (λ (r : Store). solves r σ) (sym (here past))) ∙ never σ;
+            ∙ ap (λ (b : Bool). b && asks t σ) (sym (solves_alike (record_at slots store) C.new (alike_cells _ _ (C.alike no_slot).cells) σ) ∙ ap (λ (r : Store). solves r σ) (sym (here past))) ∙ never σ;
       };
     }
 
@@ -76,7 +76,7 @@ module _ (slots : List (Slot Store)) (store aside : ℕ) (ls : store < length sl
       same_left d σ =
           N.solutions σ
           ∙ ap (λ (b : Bool). b && asks t σ)
-          (ap (λ (r : Store). solves r σ) (here past) ∙ solves_alike (record_at slots store) C.new (C.alike no_slot).alike σ ∙ ap (λ (r : Store). solves r σ) (sym (is_old d)))
+          (ap (λ (r : Store). solves r σ) (here past) ∙ solves_alike (record_at slots store) C.new (alike_cells _ _ (C.alike no_slot).cells) σ ∙ ap (λ (r : Store). solves r σ) (sym (is_old d)))
 
       more : (d : Slot Store) → (get_or slots store d).record.used ≤ w.used
       more d = omega (arith, ap (λ (r : Store). r.used) (is_old d), (C.alike no_slot).used, ap (λ (r : Store). r.used) (here past), N.more)
@@ -112,9 +112,9 @@ module _ (slots : List (Slot Store)) (store aside : ℕ) (ls : store < length sl
       pub back : (aside < length mid) × (store < length mid)
       back = (mid_aside, mid_store)
 
-      pub aside_narrowed : (last : List (Slot Store)) → Copied Copy Sound solves aside store mid last → ToldAside store aside t slots last (Ok Lost)
+      pub aside_narrowed : (last : List (Slot Store)) → Copied (Copy lone) Sound solves aside store mid last → ToldAside store aside t slots last (Ok Lost)
       aside_narrowed last D =
-          let like : Alike w D.new = subst (λ (r : Store). Alike r D.new) (at_aside no_slot) (D.alike no_slot).alike in
+          let like : Alike w D.new = subst (λ (r : Store). Alike r D.new) (at_aside no_slot) (alike_cells _ _ (D.alike no_slot).cells) in
           let used : D.new.used ≡ w.used = (D.alike no_slot).used ∙ ap (λ (r : Store). r.used) (at_aside no_slot) in
           record {
             mid = mid;

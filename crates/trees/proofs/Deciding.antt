@@ -4,13 +4,12 @@ use Rattle.std.proofs.lemmas.Bool.{and_from, and_parts, both_ways, cases_eq, eq-
 use Rattle.bank.specs.Kinds.{Assignment}
 use Rattle.trees.specs.declared.cells.Form.{Form}
 use Rattle.trees.specs.declared.cells.Form.TheVariants.{Free, Number, Pair}
-use Rattle.trees.specs.declared.cells.Store.{Store}
 use Rattle.trees.specs.declared.cells.Equation.{Equation}
 use Rattle.trees.specs.declared.tasks.Bind.{Bind}
 use Rattle.trees.specs.declared.tasks.Merge.{Merge}
 use Rattle.trees.specs.declared.tasks.Task.{Task}
 use Rattle.trees.specs.declared.tasks.Task.TheVariants.{Equal, Has}
-use Rattle.trees.specs.Stores.{root_of_lem, form_at_lem, form_of, Fits, solves, Solves, Formed, Reached}
+use Rattle.trees.specs.Stores.{Store, root_of_lem, form_at_lem, form_of, Fits, solves, Solves, Formed, Reached}
 use Rattle.trees.specs.Values.{ready, deep, Sound}
 use Rattle.trees.specs.Joins.{sides, clash, chosen, flat, leaf, shallow, Moved, Reformed, Joined, Solved}
 use Rattle.trees.specs.Tasks.{asks, Asks, With, Started, Narrowed, Held, Refused}

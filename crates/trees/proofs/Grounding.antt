@@ -6,8 +6,7 @@ use Rattle.std.proofs.lemmas.Bool.{and_cases, and_from, and_parts, cases_eq, cas
 use Rattle.bank.specs.Kinds.{Value, number, pair, Assignment}
 use Rattle.trees.specs.declared.cells.Form.{Form}
 use Rattle.trees.specs.declared.cells.Form.TheVariants.{Free, Number, Pair}
-use Rattle.trees.specs.declared.cells.Store.{Store}
-use Rattle.trees.specs.Stores.{form_of, Fits, Solves, Formed, Shaped}
+use Rattle.trees.specs.Stores.{Store, form_of, Fits, Solves, Formed, Shaped}
 use Rattle.trees.specs.laws.Shapes.{free_past}
 use Rattle.trees.specs.laws.Depths.{ready_more, deep_more, deep_le, free_deep}
 use Rattle.trees.specs.Values.{ready, deep}

@@ -4,9 +4,8 @@ use Rattle.std.proofs.lemmas.List.{length-append}
 use Rattle.std.proofs.lemmas.Bool.{eq-eqb, ne_eqb, cases_eq, cond-true, cond-false, cases_lt}
 use Rattle.bank.specs.Kinds.{Value, Assignment}
 use Rattle.trees.specs.declared.cells.Form.{Form}
-use Rattle.trees.specs.declared.cells.Store.{Store}
 use Rattle.trees.specs.declared.cells.Equation.{Equation}
-use Rattle.trees.specs.Stores.{root_of_lem, form_at_lem, form_of, Fits, Solves, Holds, Left, Formed, Named, Shaped, classes, classes_below}
+use Rattle.trees.specs.Stores.{Store, root_of_lem, form_at_lem, form_of, Fits, Solves, Holds, Left, Formed, Named, Shaped, classes, classes_below}
 use Rattle.trees.specs.Joins.{Moved, Joined, sides, clash, chosen, flat}
 use Rattle.trees.specs.Values.{ready, deep}
 use Rattle.trees.specs.laws.Depths.{ready_more, flat_ready}

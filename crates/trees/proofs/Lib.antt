@@ -4,8 +4,6 @@ pub mod Grounding
 pub mod Writing
 pub mod Narrowing
 pub mod Deciding
-pub mod Blanks
 pub mod Showing
 pub mod Aside
 pub mod Telling
-pub mod Copying

@@ -5,12 +5,11 @@ use Rattle.std.proofs.lemmas.Bool.{cases_eq, cases_Bool, and_from, and_parts}
 use Rattle.bank.specs.Kinds.{Value, Assignment}
 use Rattle.stack.specs.Items.{top, below}
 use Rattle.trees.specs.declared.cells.Form.{Form}
-use Rattle.trees.specs.declared.cells.Store.{Store}
 use Rattle.trees.specs.declared.cells.Equation.{Equation}
 use Rattle.trees.specs.declared.tasks.Bind.{Bind}
 use Rattle.trees.specs.declared.tasks.Task.{Task}
 use Rattle.trees.specs.declared.tasks.Task.TheVariants.{Equal, Has}
-use Rattle.trees.specs.Stores.{root_of_lem, form_at_lem, form_of, Fits, solves, Solves, Left, Same, Formed, Named, Shaped, Reached, classes, classes_below}
+use Rattle.trees.specs.Stores.{Store, root_of_lem, form_at_lem, form_of, Fits, solves, Solves, Left, Same, Formed, Named, Shaped, Reached, classes, classes_below}
 use Rattle.trees.specs.laws.Shapes.{formed_more, solves_alike}
 use Rattle.trees.specs.laws.Solves.{equal_true, equal_from, fits_true, fits_from, solves_true, solves_from, same_test, never_true}
 use Rattle.trees.specs.Joins.{sides, clash, chosen, Reformed, Solved}

@@ -4,8 +4,7 @@ use Rattle.std.specs.Fmt.{signed_decimal}
 use Rattle.std.proofs.lemmas.Bool.{and_parts}
 use Rattle.trees.specs.declared.cells.Form.{Form}
 use Rattle.trees.specs.declared.cells.Form.TheVariants.{Free, Number, Pair}
-use Rattle.trees.specs.declared.cells.Store.{Store}
-use Rattle.trees.specs.Stores.{root_of_lem, form_of, Formed, Shaped}
+use Rattle.trees.specs.Stores.{Store, root_of_lem, form_of, Formed, Shaped}
 use Rattle.trees.specs.Values.{grow, value, deep, ready}
 use Rattle.trees.specs.laws.Shapes.{formed}
 use Rattle.trees.specs.laws.Depths.{value_step, deep_step}

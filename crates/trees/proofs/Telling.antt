@@ -14,10 +14,9 @@ use Rattle.records.specs.Slots.{live_at, holding, Keeps}
 use Rattle.records.proofs.Orders.{Orderly, orderly_held}
 use Rattle.records.proofs.Places.{live_is, live_within, live_same, noted_there, written_there}
 use Rattle.records.proofs.Writes.{unchanged, kept_all, accepted}
-use Rattle.trees.specs.declared.cells.Store.{Store}
 use Rattle.trees.specs.declared.tasks.Task.{Task}
 use Rattle.trees.specs.Kind.{trees}
-use Rattle.trees.specs.Stores.{solves}
+use Rattle.trees.specs.Stores.{Store, solves}
 use Rattle.trees.specs.Values.{given, Sound, Kept}
 use Rattle.trees.specs.Tasks.{asks, Told}
 use Rattle.trees.specs.Reading.{Asked}

@@ -2,13 +2,12 @@
 use Rattle.std.proofs.Common.{◌≡◌, ℕ, ◌<◌, ◌≤◌, cond, eqb, List, length, get_or, set, sym, ap, ◌∙◌, ⊎_elim, arith}
 use Rattle.std.proofs.lemmas.List.{get_or-set_same, get_or-set_other}
 use Rattle.std.proofs.lemmas.Bool.{cases_lt, cases_eq, ne_eqb, cond-false}
+use Rattle.records.specs.Cells.{Reached as Grown}
 use Rattle.trees.specs.declared.cells.Cell.{Cell}
 use Rattle.trees.specs.declared.cells.Form.{Form}
-use Rattle.trees.specs.declared.cells.Form.TheVariants.{Free}
-use Rattle.trees.specs.declared.cells.Store.{Store}
-use Rattle.trees.specs.Stores.{no_cell, root_of_lem, form_at_lem, Alike}
+use Rattle.trees.specs.Stores.{Store, lone, no_cell, root_of_lem, form_at_lem, Alike, Reached}
 use Rattle.trees.specs.Joins.{Moved, Reformed}
-use Rattle.trees.specs.laws.Shapes.{root_used, root_past, form_used, form_past}
+use Rattle.trees.specs.laws.Shapes.{root_used, root_past, form_used, form_past, alike_cells}
 
 -- the cell of a variable, once the class of `from` is put under `to`
 abbrev pub under : ℕ → ℕ → Cell → Cell
@@ -45,10 +44,6 @@ module _ (r s : Store) (same : s.used ≡ r.used) where
       (λ (g : r.used ≤ a). form_past s a (omega arith) ∙ sym (form_past r a g))
       (cases_lt a r.used)
 
-  -- the part in use was copied
-  pub copied : ((a : ℕ) → a < r.used → get_or s.cells a no_cell ≡ get_or r.cells a no_cell) → Alike r s
-  copied cells = record { roots = λ a. root_at a (λ l. ap (λ (c : Cell). c.root) (cells a l)); forms = λ a. form_at a (λ l. ap (λ (c : Cell). c.form) (cells a l)) }
-
   module _ (at : ℕ) (h : Form) (l : at < r.used) where
     pub reformed : at < length r.cells → s.cells ≡ reform r.cells at h → Reformed at h r s
     reformed long e = record {
@@ -80,15 +75,11 @@ alike_below r s more roots forms = record {
   forms = λ a. ⊎_elim (forms a) (λ (g : s.used ≤ a). form_past s a g ∙ sym (form_past r a (omega arith))) (cases_lt a s.used);
 }
 
--- more variables are in use, each of them free and alone
-module _ (r s : Store) (more : r.used ≤ s.used)
-    (kept : (a : ℕ) → a < r.used → get_or s.cells a no_cell ≡ get_or r.cells a no_cell)
-    (own : (a : ℕ) → r.used ≤ a → a < s.used → get_or s.cells a no_cell ≡ record { root = a; form = Free }) where
-  pub taken : Alike r s
-  taken = alike_below r s more
-      (λ a l. root_used s a l ∙ ⊎_elim
-      (λ (k : a < r.used). ap (λ (c : Cell). c.root) (kept a k) ∙ sym (root_used r a k))
-      (λ (g : r.used ≤ a). ap (λ (c : Cell). c.root) (own a g l) ∙ sym (root_past r a g)) (cases_lt a r.used))
-      (λ a l. form_used s a l ∙ ⊎_elim
-      (λ (k : a < r.used). ap (λ (c : Cell). c.form) (kept a k) ∙ sym (form_used r a k))
-      (λ (g : r.used ≤ a). ap (λ (c : Cell). c.form) (own a g l) ∙ sym (form_past r a g)) (cases_lt a r.used))
+-- more variables are in use
+pub reached : (r s : Store) (n : ℕ) → r.used ≤ 256 → n ≤ 256 → Grown lone r s n → Reached r s n
+reached r s n few within G = record {
+  alike = alike_cells r s G.cells;
+  more = omega (arith, G.used);
+  covers = omega (arith, G.used);
+  within = omega (arith, G.used, few, within);
+}

@@ -9,10 +9,9 @@
 use Rattle.std.specs.Prelude.{◌≡◌, ℕ, ◌+◌, ◌*◌, ◌≤◌, Bool, true, false, cond, not, ◌&&◌, List, [], ◌∷◌, ◌++◌, length, Ok, Err, Result, ◌==◌, ◌≢◌}
 use Rattle.bank.specs.Kinds.{Assignment}
 use Rattle.std.specs.Ordering.{int_eq}
-use Rattle.trees.specs.Stores.{root_of_lem, form_at_lem, form_of, Solves, Left, Same, Named, Shaped, classes}
+use Rattle.trees.specs.Stores.{Store, root_of_lem, form_at_lem, form_of, Solves, Left, Same, Named, Shaped, classes}
 use Rattle.trees.specs.declared.cells.Form.{Form}
 use Rattle.trees.specs.declared.cells.Form.TheVariants.{Free, Number, Pair}
-use Rattle.trees.specs.declared.cells.Store.{Store}
 use Rattle.trees.specs.declared.cells.Equation.{Equation}
 use Rattle.trees.specs.declared.cells.NoSolution.{NoSolution}
 

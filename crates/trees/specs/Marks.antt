@@ -7,9 +7,8 @@
 --   Grounds   whether no class lies below itself; one that does has no finite tree
 use Rattle.std.specs.Prelude.{◌≡◌, ℕ, ◌<◌, ◌≤◌, Bool, true, false, List, length, count_by, slice_index_or}
 use Rattle.bank.specs.Kinds.{Assignment}
-use Rattle.trees.specs.Stores.{form_of, Solves}
+use Rattle.trees.specs.Stores.{Store, form_of, Solves}
 use Rattle.trees.specs.Values.{ready, deep}
-use Rattle.trees.specs.declared.cells.Store.{Store}
 
 abbrev pub marked : List Bool → ℕ → Bool
 marked marks x = slice_index_or marks x false

@@ -10,8 +10,7 @@ use Rattle.bank.specs.declared.Refusal.{Refusal}
 use Rattle.bank.specs.Views.{Meaning}
 use Rattle.records.specs.declared.slots.Slot.{Slot}
 use Rattle.records.specs.Slots as of_slots
-use Rattle.trees.specs.declared.cells.Store.{Store}
-use Rattle.trees.specs.Stores.{solves}
+use Rattle.trees.specs.Stores.{Store, solves}
 use Rattle.trees.specs.Values.{given, Sound}
 use Rattle.trees.specs.Tasks.{Told}
 use Rattle.trees.specs.declared.tasks.Task.{Task}

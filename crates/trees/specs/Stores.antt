@@ -1,5 +1,7 @@
 -- What a store's record says. Assumes nothing.
 --
+--   Store               the record of a store
+--   lone                the cell of a variable that is not in use: it is free and alone
 --   no_cell             what stands for a cell past the last one
 --   root_of_lem, form_at_lem    the class of a variable, by its lowest variable, and the form that stands at a variable
 --   form_of             what is known of a variable's class
@@ -10,25 +12,31 @@
 --   Formed, Named       forms and equations speak of variables below n, and of numbers in range
 --   Shaped              what every record that is worked on keeps
 --   Alike, Reached      two records say the same, and more variables are in use
---   Copy                two records say the same of as many variables
 --   classes             how many classes there are
-use Rattle.std.specs.Prelude.{◌≡◌, ℕ, zero, suc, ◌+◌, ◌<◌, ◌≤◌, Bool, true, cond, ◌&&◌, List, [], ◌∷◌, ◌==◌, nat_lt, slice_index_or, unsigned_abs}
+use Rattle.std.specs.Prelude.{◌≡◌, ℕ, zero, suc, ◌+◌, ◌<◌, ◌≤◌, Bool, true, cond, ◌&&◌, List, [], ◌∷◌, ◌==◌, unsigned_abs}
 use Rattle.bank.specs.Kinds.{Value, number, pair, Assignment, Solutions}
+use Rattle.records.specs.declared.cells.Record.{Record}
+use Rattle.records.specs.Cells.{cell_at}
 use Rattle.trees.specs.Kind.{equal}
 use Rattle.trees.specs.declared.cells.Cell.{Cell}
 use Rattle.trees.specs.declared.cells.Form.{Form}
 use Rattle.trees.specs.declared.cells.Form.TheVariants.{Free, Number, Pair}
-use Rattle.trees.specs.declared.cells.Store.{Store}
 use Rattle.trees.specs.declared.cells.Equation.{Equation}
+
+abbrev pub Store : Type 0
+Store = Record Cell 256
+
+abbrev pub lone : ℕ → Cell
+lone a = record { root = a; form = Free }
 
 abbrev pub no_cell : Cell
 no_cell = record { root = 0; form = Free }
 
 unfoldable pub root_of_lem : Store → ℕ → ℕ
-root_of_lem r a = cond (nat_lt a r.used) (slice_index_or r.cells a no_cell).root a
+root_of_lem r a = (cell_at lone r a).root
 
 unfoldable pub form_at_lem : Store → ℕ → Form
-form_at_lem r a = cond (nat_lt a r.used) (slice_index_or r.cells a no_cell).form Free
+form_at_lem r a = (cell_at lone r a).form
 
 abbrev pub form_of : Store → ℕ → Form
 form_of r a = form_at_lem r (root_of_lem r a)
@@ -87,10 +95,6 @@ pub record Shaped (r : Store) : Type 0 where
 pub record Alike (r s : Store) : Type 0 where
   pub roots : (a : ℕ) → root_of_lem s a ≡ root_of_lem r a
   pub forms : (a : ℕ) → form_at_lem s a ≡ form_at_lem r a
-
-pub record Copy (r s : Store) : Type 0 where
-  pub alike : Alike r s
-  pub used : s.used ≡ r.used
 
 -- the variables below n are now in use, and the record says the same
 pub record Reached (r s : Store) (n : ℕ) : Type 0 where

@@ -13,9 +13,8 @@ use Rattle.bank.specs.declared.Effect.TheVariants.{Kept, Narrowed as Lost}
 use Rattle.bank.specs.declared.Refusal.{Refusal}
 use Rattle.bank.specs.declared.Refusal.TheVariants.{NotLive, NoSpare, BadConstraint, BadVariable, Contradiction, TextTooLong}
 use Rattle.trees.specs.Kind.{equal}
-use Rattle.trees.specs.Stores.{fits, Fits, solves, Solves, Left, Same, Named, Formed, Shaped}
+use Rattle.trees.specs.Stores.{Store, fits, Fits, solves, Solves, Left, Same, Named, Formed, Shaped}
 use Rattle.trees.specs.Values.{Sound}
-use Rattle.trees.specs.declared.cells.Store.{Store}
 use Rattle.trees.specs.declared.cells.Equation.{Equation}
 use Rattle.trees.specs.declared.cells.NoSolution.{NoSolution}
 use Rattle.trees.specs.declared.tasks.Task.{Task}

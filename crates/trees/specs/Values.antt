@@ -7,10 +7,9 @@
 --   Sound   what is kept of a store's record: it is well made, and no class lies below itself
 use Rattle.std.specs.Prelude.{◌≡◌, ℕ, zero, suc, ◌+◌, ◌<◌, Bool, true, false, ◌&&◌, pos}
 use Rattle.bank.specs.Kinds.{Value, number, pair, Assignment}
-use Rattle.trees.specs.Stores.{root_of_lem, form_of, Shaped}
+use Rattle.trees.specs.Stores.{Store, root_of_lem, form_of, Shaped}
 use Rattle.trees.specs.declared.cells.Form.{Form}
 use Rattle.trees.specs.declared.cells.Form.TheVariants.{Free, Number, Pair}
-use Rattle.trees.specs.declared.cells.Store.{Store}
 
 -- the value of a form: a free class has a large number of its own
 abbrev pub grow : (ℕ → Value) → ℕ → Form → Value

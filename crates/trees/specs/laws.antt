@@ -3,6 +3,7 @@ pub mod Solves
 pub mod Shapes
 pub mod Depths
 pub mod Sounds
+pub mod Blanks
 pub mod Decode
 pub mod Canon
 pub mod Fillings

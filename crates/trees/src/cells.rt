@@ -1,8 +1,10 @@
 // What a store is made of.
-ghost use Rattle.std.specs.Prelude.{◌≡◌, length};
+ghost use Rattle.std.specs.Prelude.{◌≡◌};
 ghost use Rattle.bank.specs.declared.Refusal.TheVariants.{Contradiction};
+ghost use Rattle.trees.specs.Stores.{lone};
 
 use bank::Refusal;
+use records::{Node, Record};
 
 // What is known of a class: nothing, that it is a number, or that it is the pair of two variables.
 #[derive(Clone, Copy, PartialEq, Eq)]
@@ -19,28 +21,19 @@ pub struct Cell {
     pub form: Form,
 }
 
-// The cells of the variables below `used`. From there on each variable is free and alone, whatever the array holds, so that the work on a
-// store follows the variables that it has met. That the cells are well made is a fact of live stores only: a lent slot holds any record.
-#[derive(Clone, Copy)]
-pub struct Store {
-    // In a lent slot it may be past the array, so no fact of the type bounds it.
-    pub used: u16,
-    pub cells: [Cell; 256],
-    ghost full: { length cells ≡ 256 },
-}
+impl Node for Cell {
+    ghost own = { lone };
 
-impl Store {
-    // A record for a slot to lend; what it holds does not matter.
-    pub fn new() -> Store {
-        Store {
-            used: 0,
-            cells: [Cell {
-                root: 0,
-                form: Form::Free,
-            }; 256],
+    fn alone(node: u16) -> Cell {
+        Cell {
+            root: node,
+            form: Form::Free,
         }
     }
 }
+
+// A store: the cells of its variables. That they are well made is a fact of live stores only: a lent slot holds any record.
+pub type Store = Record<Cell, 256>;
 
 // Two variables that are still to be joined.
 #[derive(Clone, Copy)]

@@ -1,33 +1,25 @@
-// Reads what a record says, and takes variables into use.
+// Reads what a record says.
 ghost use Rattle.std.specs.Prelude.{◌≡◌, ◌<◌, ◌≤◌, true};
-ghost use Rattle.trees.specs.Stores.{root_of_lem, form_at_lem, form_of, Shaped, Alike, Reached};
+ghost use Rattle.trees.specs.Stores.{root_of_lem, form_at_lem, form_of, Shaped, Alike};
 
-use crate::cells::{Cell, Form, Store};
+use crate::cells::{Form, Store};
 
 // The lowest variable of a class.
-#[tactic(auto, using(crate::specs::laws::Shapes::root_used, crate::specs::laws::Shapes::root_past))]
+#[tactic(auto, unfolding(crate::specs::Stores::root_of_lem))]
 pub fn root_of(r: &Store, x: u16) -> u16
     requires { x < 256 }
     ensures { result ≡ root_of_lem r.now x }
 {
-    if x < r.used {
-        r.cells[x as usize].root
-    } else {
-        x
-    }
+    r.at(x).root
 }
 
 // The form that stands at a variable, which is that of its class if it is the lowest there.
-#[tactic(auto, using(crate::specs::laws::Shapes::form_used, crate::specs::laws::Shapes::form_past))]
+#[tactic(auto, unfolding(crate::specs::Stores::form_at_lem))]
 pub fn form_at(r: &Store, x: u16) -> Form
     requires { x < 256 }
     ensures { result ≡ form_at_lem r.now x }
 {
-    if x < r.used {
-        r.cells[x as usize].form
-    } else {
-        Form::Free
-    }
+    r.at(x).form
 }
 
 // What is known of a variable's class.
@@ -37,21 +29,6 @@ pub fn known(r: &Store, x: u16) -> Form
     ensures { result ≡ form_of r.now x }
 {
     form_at(r, root_of(r, x))
-}
-
-// Takes the variables below `n` into use; each stays as it was.
-pub fn reach(r: &mut Store, n: u16)
-    requires used { r.old.used ≤ 256 }
-    requires bound { n ≤ 256 }
-    ensures { Reached r.old r.new n }
-{
-    for x in r.used..n {
-        r.cells[x as usize] = Cell {
-            root: x,
-            form: Form::Free,
-        };
-    }
-    r.used = r.used.max(n);
 }
 
 // Whether two records say the same of a variable.

@@ -29,8 +29,8 @@ fn pend(f: Form, g: Form, s: &mut Stack<Equation>)
     ensures pending { items s.new ≡ sides f g ++ items s.old }
 {
     if let (Form::Pair(a, b), Form::Pair(c, d)) = (f, g) {
-        let _ = s.push(Equation { x: b, y: d });
-        let _ = s.push(Equation { x: a, y: c });
+        s.push(Equation { x: b, y: d }).unwrap();
+        s.push(Equation { x: a, y: c }).unwrap();
     }
 }
 
@@ -149,7 +149,7 @@ pub fn start(r: &mut Store, t: Task, s: &mut Stack<Equation>) -> Result<(), NoSo
 {
     match t {
         Task::Equal(t) => {
-            let _ = s.push(Equation { x: t.x, y: t.y });
+            s.push(Equation { x: t.x, y: t.y }).unwrap();
             Ok(())
         }
         Task::Has(t) => shape(r, t, s),

@@ -1,34 +1,24 @@
-// A record in the slot of a shelf, and stores told there. Only the part in use is worked on.
-ghost use Rattle.std.specs.Prelude.{◌≡◌, ◌<◌, ◌≤◌, true, false, length, ◌≢◌};
+// What the records of a bank say to a shelf, and stores told there. Only the part in use is worked on.
+ghost use Rattle.std.specs.Prelude.{◌≡◌, ◌<◌, true, false, length, ◌≢◌};
 ghost use Rattle.std.specs.Option.{ForSome};
 ghost use Rattle.records.specs.Slots.{live_at};
 ghost use Rattle.trees.specs.Kind.{trees};
-ghost use Rattle.trees.specs.Stores.{solves, Copy};
+ghost use Rattle.trees.specs.Stores.{solves};
 ghost use Rattle.trees.specs.Values.{Sound};
+ghost use Rattle.trees.specs.laws.Blanks.{few_used, begun, followed};
 ghost use Rattle.trees.specs.Meaning.{text_of, SoundAt, ToldAside, ToldAt};
 
-use crate::cells::Store;
+use crate::cells::{Cell, Store};
 use crate::classes::alike;
 use crate::store::narrow;
 use crate::tasks::Task;
 use crate::tells::{decide, tell_copied};
 use crate::text::write;
 use bank::{Effect, Refusal};
-use records::{Slot, Stored, copy};
+use records::{Sense, Slot, copy};
 use texts::Writer;
 
-// Makes a record say what another says: the cells in use are copied.
-#[tactic(auto, using(crate::proofs::Copying::taken_over))]
-fn take_over(r: &mut Store, other: &Store)
-    requires { other.now.used ≤ 256 }
-    ensures { Copy other.now r.new }
-{
-    let used = other.used as usize;
-    r.cells[0..used].copy_from_slice(&other.cells[0..used]);
-    r.used = other.used;
-}
-
-impl Stored for Store {
+impl Sense<256> for Cell {
     const V: u16 = 256;
 
     ghost V = { 256 };
@@ -41,19 +31,15 @@ impl Stored for Store {
 
     ghost sound = { Sound };
 
-    ghost alike = { Copy };
-
-    fn write(&self, var: u16, writer: &mut Writer) {
-        write(self, 256, var, writer);
+    fn write(r: &Store, var: u16, writer: &mut Writer) {
+        write(r, 256, var, writer);
     }
 
-    fn clear(&mut self) {
-        self.used = 0;
-    }
+    ghost few = { few_used };
 
-    fn copy_from(&mut self, other: &Store) {
-        take_over(self, other);
-    }
+    ghost begins = { begun };
+
+    ghost follows = { followed };
 }
 
 // Tells a store by narrowing what it says in an idle slot.

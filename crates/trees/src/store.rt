@@ -5,7 +5,6 @@ ghost use Rattle.trees.specs.Values.{Sound};
 ghost use Rattle.trees.specs.Tasks.{Proper, Narrows};
 
 use crate::cells::{Equation, Form, NoSolution, Store};
-use crate::classes::reach;
 use crate::joins::{resolve, start};
 use crate::levels::grounded;
 use crate::tasks::Task;
@@ -40,7 +39,7 @@ pub fn narrow(r: &mut Store, t: Task) -> Result<(), NoSolution>
     requires { Sound r.old }
     ensures { Narrows r.old r.new t result }
 {
-    reach(r, span(t));
+    r.reach(span(t));
     let mut slots = [Equation { x: 0, y: 0 }; 260];
     let mut s = Stack::new(&mut slots);
     start(r, t, &mut s)?;

@@ -8,7 +8,7 @@ ghost use Rattle.trees.specs.Tasks.{Told, Decided};
 ghost use Rattle.trees.specs.declared.tasks.Task.TheVariants.{Has, Equal};
 
 use crate::cells::{Form, Store};
-use crate::classes::{alike, form_at, reach, root_of};
+use crate::classes::{alike, form_at, root_of};
 use crate::joins::{choose, clashes, unite};
 use crate::store::{narrow, span};
 use crate::tasks::{Bind, Merge, Task};
@@ -57,7 +57,7 @@ fn decide_form(r: &mut Store, t: Bind) -> Option<Result<Effect, Refusal>>
         return Some(Ok(Effect::Kept));
     }
     if f == Form::Free && is_shallow(r, a, t.form) {
-        reach(r, span(Task::Has(t)));
+        r.reach(span(Task::Has(t)));
         r.cells[a as usize].form = t.form;
         return Some(Ok(Effect::Narrowed));
     }
@@ -81,7 +81,7 @@ fn decide_equal(r: &mut Store, t: Merge) -> Option<Result<Effect, Refusal>>
         return Some(Err(Refusal::Contradiction));
     }
     if is_flat(f) && is_flat(g) {
-        reach(r, span(Task::Equal(t)));
+        r.reach(span(Task::Equal(t)));
         unite(r, a, b, choose(f, g));
         return Some(Ok(Effect::Narrowed));
     }

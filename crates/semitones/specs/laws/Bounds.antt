@@ -5,8 +5,7 @@ use Rattle.std.specs.Int.Signed.{mag}
 use Rattle.std.proofs.lemmas.Int.{ints}
 use Rattle.std.proofs.lemmas.Bool.{cases_lt, cases_Bool}
 use Rattle.semitones.specs.declared.cells.Cell.{Cell}
-use Rattle.semitones.specs.declared.cells.Record.{Record}
-use Rattle.semitones.specs.Cells.{root_of_lem, by_of, tied, Sound}
+use Rattle.semitones.specs.Cells.{Record, root_of_lem, by_of, tied, Sound}
 use Rattle.semitones.specs.laws.Solves.{cell_out}
 
 pub mag_within : (z : ℤ) (n : ℕ) → z ≤ℤ pos n → pos 0 ≤ℤ (z +ℤ pos n) → mag z ≤ n

@@ -5,8 +5,7 @@ use Rattle.std.proofs.Math.Path.{refl, sym, ap}
 use Rattle.std.proofs.lemmas.Int.{ints}
 use Rattle.std.proofs.lemmas.Bool.{eq-eqb, ne_eqb, cases_eq, cases_lt}
 use Rattle.bank.specs.Kinds.{number, Assignment}
-use Rattle.semitones.specs.declared.cells.Record.{Record}
-use Rattle.semitones.specs.Cells.{node, root_of_lem, by_of, solves, Sound}
+use Rattle.semitones.specs.Cells.{Record, node, root_of_lem, by_of, solves, Sound}
 use Rattle.semitones.specs.laws.Solves.{solves_from, solves_at, admitted_from, given, given_node, given_solves}
 
 -- one more for each node of a class

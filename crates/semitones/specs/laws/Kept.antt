@@ -4,8 +4,7 @@ use Rattle.std.proofs.Math.Bridge.{le_prop}
 use Rattle.std.specs.Coded.{coded_ℕ, coded_ℤ}
 use denote.Struct.Props.{≡_prop, props}
 use Rattle.std.specs.Prelude.{ℤ, ◌≤ℤ◌}
-use Rattle.semitones.specs.declared.cells.Record.{Record}
-use Rattle.semitones.specs.Cells.{Sound}
+use Rattle.semitones.specs.Cells.{Record, Sound}
 
 ≤ℤ_prop : {x y : ℤ} → IsProp (x ≤ℤ y)
 ≤ℤ_prop {x = x} {y = y} = hlevel props

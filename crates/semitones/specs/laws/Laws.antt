@@ -10,9 +10,8 @@ use Rattle.bank.specs.Views.{Laws}
 use Rattle.records.specs.declared.slots.Slot.{Slot}
 use Rattle.records.specs.Slots.{Keeps, live_at}
 use Rattle.records.proofs.Places.{live_within, noted_is}
-use Rattle.semitones.specs.declared.cells.Record.{Record}
 use Rattle.semitones.specs.Whole.{whole, number_of}
-use Rattle.semitones.specs.Cells.{node, no_cell, root_of_lem, by_of, solves, named, shown, stores, Sound}
+use Rattle.semitones.specs.Cells.{Record, node, no_cell, root_of_lem, by_of, solves, named, shown, stores, Sound}
 use Rattle.semitones.specs.laws.Solves.{solves_at, solves_number}
 use Rattle.semitones.specs.laws.Bounds.{far}
 use Rattle.semitones.specs.laws.Canon.{one_root, one_by, same_root, same_by}

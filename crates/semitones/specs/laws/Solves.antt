@@ -2,13 +2,13 @@
 use Rattle.std.specs.Prelude.{◌≡◌, ℕ, zero, suc, ◌<◌, ◌≤◌, true, false, ℤ, pos, ◌+ℤ◌, slice_index_or, refl}
 use Rattle.std.proofs.Common.{⊎_elim, sym, ap, subst, ◌∙◌, arith}
 use Rattle.std.proofs.Math.IntN.{+ℤ_idl}
-use Rattle.std.proofs.lemmas.Bool.{and_from, and_parts, cases_eq, both_ways, lt-ltb, le-ltb, cond-true, cond-false}
+use Rattle.std.proofs.lemmas.Bool.{and_from, and_parts, cases_eq, both_ways}
 use Rattle.std.proofs.lemmas.Bool.Decides.{Decides-int_eq}
 use Rattle.bank.specs.Kinds.{Value, number, pair, Assignment, all_admitted}
-use Rattle.semitones.specs.declared.cells.Record.{Record}
 use Rattle.semitones.specs.Whole.{whole, is_number, number_of}
 use Rattle.std.specs.Ordering.{int_eq}
-use Rattle.semitones.specs.Cells.{node, no_cell, cell_of, root_of_lem, by_of, agrees, solves, Sound}
+use Rattle.records.proofs.Reaching
+use Rattle.semitones.specs.Cells.{Record, lone, node, no_cell, cell_of, root_of_lem, by_of, agrees, solves, Sound}
 
 pub eq_z_true : (x y : ℤ) → int_eq x y ≡ true → x ≡ y
 eq_z_true x y = (Decides-int_eq x y).0
@@ -18,10 +18,10 @@ eq_eq_z x y = (Decides-int_eq x y).1
 
 -- a cell in use, and one that is not
 pub cell_in : (r : Record) (a : ℕ) → a < r.used → cell_of r a ≡ slice_index_or r.cells a no_cell
-cell_in r a h = cond-true _ (slice_index_or r.cells a no_cell) (record { root = a; by = pos 0 }) (lt-ltb a r.used h)
+cell_in = Reaching.cell_in lone
 
 pub cell_out : (r : Record) (a : ℕ) → r.used ≤ a → cell_of r a ≡ record { root = a; by = pos 0 }
-cell_out r a h = cond-false _ (slice_index_or r.cells a no_cell) (record { root = a; by = pos 0 }) (le-ltb a r.used h)
+cell_out = Reaching.cell_out lone
 
 pub agrees_from : (r : Record) (σ : Assignment) (n : ℕ) → ((a : ℕ) → a < n → node σ a ≡ node σ (root_of_lem r a) +ℤ by_of r a) → agrees r n σ ≡ true
 unfolding agrees

@@ -7,9 +7,8 @@ use Rattle.bank.specs.Views.{Laws}
 use Rattle.records.specs.declared.slots.Slot.{Slot}
 use Rattle.records.specs.Slots.{live_at, Keeps}
 use Rattle.records.proofs.Places.{live_is, live_within, noted_is}
-use Rattle.trees.specs.declared.cells.Store.{Store}
 use Rattle.trees.specs.Kind.{trees}
-use Rattle.trees.specs.Stores.{no_cell, solves}
+use Rattle.trees.specs.Stores.{Store, no_cell, solves}
 use Rattle.trees.specs.Values.{Sound, Kept, given}
 use Rattle.trees.specs.Meaning.{means, text_of}
 use Rattle.trees.specs.laws.Sounds.{sound_out}

@@ -8,8 +8,7 @@ use Rattle.std.proofs.lemmas.Bool.{le-leb, lt-leb, cond-true, cond-false, cases_
 use Rattle.bank.specs.Kinds.{Value, number, pair, Assignment}
 use Rattle.trees.specs.declared.cells.Form.{Form}
 use Rattle.trees.specs.declared.cells.Form.TheVariants.{Free, Number, Pair}
-use Rattle.trees.specs.declared.cells.Store.{Store}
-use Rattle.trees.specs.Stores.{root_of_lem, form_at_lem, form_of, Fits, solves, Solves, Formed, Shaped}
+use Rattle.trees.specs.Stores.{Store, root_of_lem, form_at_lem, form_of, Fits, solves, Solves, Formed, Shaped}
 use Rattle.trees.specs.laws.Solves.{solves_true}
 use Rattle.trees.specs.laws.Shapes.{formed}
 use Rattle.trees.specs.Values.{grow, value, given, ready, deep, Sound}

@@ -5,8 +5,7 @@ use Rattle.std.proofs.lemmas.Bool.{and_from, and_parts, both_ways, cases_lt}
 use Rattle.bank.specs.Kinds.{Value, pair}
 use Rattle.trees.specs.declared.cells.Form.{Form}
 use Rattle.trees.specs.declared.cells.Form.TheVariants.{Free, Number, Pair}
-use Rattle.trees.specs.declared.cells.Store.{Store}
-use Rattle.trees.specs.Stores.{root_of_lem, form_at_lem, form_of, Fits, solves, Solves, Shaped}
+use Rattle.trees.specs.Stores.{Store, root_of_lem, form_at_lem, form_of, Fits, solves, Solves, Shaped}
 use Rattle.trees.specs.Joins.{flat}
 use Rattle.trees.specs.laws.Solves.{solves_from}
 use Rattle.trees.specs.Values.{grow, value, given, ready, deep, Sound}

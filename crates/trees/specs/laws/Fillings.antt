@@ -8,8 +8,7 @@ use Rattle.bank.specs.Kinds.{Value, number, Assignment}
 use Rattle.bank.specs.Views.{Always}
 use Rattle.trees.specs.declared.cells.Form.{Form}
 use Rattle.trees.specs.declared.cells.Form.TheVariants.{Free, Number, Pair}
-use Rattle.trees.specs.declared.cells.Store.{Store}
-use Rattle.trees.specs.Stores.{root_of_lem, form_of, Fits, solves, Formed}
+use Rattle.trees.specs.Stores.{Store, root_of_lem, form_of, Fits, solves, Formed}
 use Rattle.trees.specs.laws.Shapes.{formed}
 use Rattle.trees.specs.laws.Solves.{solves_true, solves_from}
 use Rattle.trees.specs.Values.{given, Sound}

@@ -1,31 +1,37 @@
 -- What a record says below the variables in use and from there on, and records that say the same. Assumes nothing.
-use Rattle.std.specs.Prelude.{◌≡◌, ℕ, zero, suc, ◌<◌, ◌≤◌, Bool, ◌&&◌, nat_lt, slice_index_or}
+use Rattle.std.specs.Prelude.{◌≡◌, ℕ, zero, suc, ◌<◌, ◌≤◌, Bool, ◌&&◌, slice_index_or}
 use Rattle.std.proofs.Math.Path.{refl, ap}
 use Rattle.std.proofs.Common.{sym, subst, ◌∙◌, arith}
-use Rattle.std.proofs.lemmas.Bool.{lt-ltb, le-ltb, cond-true, cond-false}
 use Rattle.bank.specs.Kinds.{Assignment}
+use Rattle.records.specs.Cells.{cell_at}
+use Rattle.records.proofs.Reaching
+use Rattle.trees.specs.declared.cells.Cell.{Cell}
 use Rattle.trees.specs.declared.cells.Form.{Form}
 use Rattle.trees.specs.declared.cells.Form.TheVariants.{Free, Number, Pair}
-use Rattle.trees.specs.declared.cells.Store.{Store}
-use Rattle.trees.specs.Stores.{no_cell, root_of_lem, form_at_lem, form_of, Fits, solves, Solves, Formed, Shaped, Alike}
+use Rattle.trees.specs.Stores.{Store, lone, no_cell, root_of_lem, form_at_lem, form_of, Fits, solves, Solves, Formed, Shaped, Alike}
 use Rattle.trees.specs.Values.{ready, deep, Sound}
 use Rattle.trees.specs.laws.Solves.{solves_true, solves_from, same_test}
 
 pub root_used : (r : Store) (a : ℕ) → a < r.used → root_of_lem r a ≡ (slice_index_or r.cells a no_cell).root
 unfolding root_of_lem
-root_used r a l = cond-true (nat_lt a r.used) (slice_index_or r.cells a no_cell).root a (lt-ltb a r.used l)
+root_used r a l = ap (λ (c : Cell). c.root) (Reaching.cell_in lone r a l)
 
 pub root_past : (r : Store) (a : ℕ) → r.used ≤ a → root_of_lem r a ≡ a
 unfolding root_of_lem
-root_past r a h = cond-false (nat_lt a r.used) (slice_index_or r.cells a no_cell).root a (le-ltb a r.used h)
+root_past r a h = ap (λ (c : Cell). c.root) (Reaching.cell_out lone r a h)
 
 pub form_used : (r : Store) (a : ℕ) → a < r.used → form_at_lem r a ≡ (slice_index_or r.cells a no_cell).form
 unfolding form_at_lem
-form_used r a l = cond-true (nat_lt a r.used) (slice_index_or r.cells a no_cell).form Free (lt-ltb a r.used l)
+form_used r a l = ap (λ (c : Cell). c.form) (Reaching.cell_in lone r a l)
 
 pub form_past : (r : Store) (a : ℕ) → r.used ≤ a → form_at_lem r a ≡ Free
 unfolding form_at_lem
-form_past r a h = cond-false (nat_lt a r.used) (slice_index_or r.cells a no_cell).form Free (le-ltb a r.used h)
+form_past r a h = ap (λ (c : Cell). c.form) (Reaching.cell_out lone r a h)
+
+-- records that are alike cell by cell
+pub alike_cells : (r s : Store) → ((a : ℕ) → cell_at lone s a ≡ cell_at lone r a) → Alike r s
+unfolding root_of_lem form_at_lem
+alike_cells r s same = record { roots = λ a. ap (λ (c : Cell). c.root) (same a); forms = λ a. ap (λ (c : Cell). c.form) (same a) }
 
 -- the class of a variable past those in use is free
 pub free_past : (r : Store) (a : ℕ) → r.used ≤ a → form_of r a ≡ Free

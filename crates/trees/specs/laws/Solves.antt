@@ -6,9 +6,8 @@ use Rattle.std.proofs.lemmas.Bool.Decides.{Decides-int_eq}
 use Rattle.bank.specs.Kinds.{Value, number, pair, Assignment}
 use Rattle.trees.specs.declared.cells.Form.{Form}
 use Rattle.trees.specs.declared.cells.Form.TheVariants.{Free, Number, Pair}
-use Rattle.trees.specs.declared.cells.Store.{Store}
 use Rattle.trees.specs.Kind.{equal}
-use Rattle.trees.specs.Stores.{root_of_lem, form_of, fits, agrees, solves, Fits, Solves}
+use Rattle.trees.specs.Stores.{Store, root_of_lem, form_of, fits, agrees, solves, Fits, Solves}
 
 pub equal_true : (u v : Value) → equal u v ≡ true → u ≡ v
 unfolding equal

@@ -6,8 +6,7 @@ use Rattle.std.specs.Coded.{coded_ℕ, coded_bool}
 use denote.Struct.Props.{≡_prop}
 use Rattle.trees.specs.declared.cells.Form.{Form}
 use Rattle.trees.specs.declared.cells.Form.TheVariants.{Free, Number, Pair}
-use Rattle.trees.specs.declared.cells.Store.{Store}
-use Rattle.trees.specs.Stores.{form_of, Formed, Shaped}
+use Rattle.trees.specs.Stores.{Store, form_of, Formed, Shaped}
 use Rattle.trees.specs.Values.{Sound}
 
 pub formed_prop : (n : ℕ) (f : Form) → IsProp (Formed n f)

@@ -3,13 +3,24 @@ use Rattle.std.proofs.Common.{◌≡◌, ℕ, ◌≤◌, ◌≢◌, ℤ, ◌-ℤ
 use lib.Signed.{mag}
 use Rattle.semitones.specs.declared.cells.Cell.{Cell}
 use Rattle.semitones.specs.declared.cells.Edge.{Edge}
-use Rattle.semitones.specs.declared.cells.Record.{Record}
-use Rattle.semitones.specs.Cells.{by_of, Sound}
+use Rattle.records.specs.Cells.{Reached}
+use Rattle.semitones.specs.Cells.{Record, lone, by_of, Sound}
 use Rattle.semitones.specs.Joins.{Same, Moved}
 use Rattle.semitones.specs.laws.Bounds.{far}
 use Rattle.semitones.proofs.Moving.{moved_as, moved_after}
 use Rattle.semitones.proofs.Told.{plain, plain_back, small_back, zero_code, code_zero, held, refused, joined_up, joined_down}
 use Rattle.semitones.proofs.classes.join.Goals as goal
+
+-- what is read of a cell
+roots : {c d : Cell} → c ≡ d → c.root ≡ d.root
+roots = ap (λ (c : Cell). c.root)
+
+bys : {c d : Cell} → c ≡ d → c.by ≡ d.by
+bys = ap (λ (c : Cell). c.by)
+
+-- more nodes are in use, each where it lay
+same_reached : (r s : Record) (end : ℕ) → r.used ≤ 257 → end ≤ 257 → Reached lone r s end → Same r s
+same_reached r s end few within R = record { few = omega (arith, R.used, few, within); cells = R.cells }
 
 -- a distance as it is passed on
 passed : (r : Record) → Sound r → (a : ℕ) (x : ℤ) → x ≡ by_of r a → to_z w32 (of_z w32 x) ≡ by_of r a
@@ -31,38 +42,38 @@ gap_of r e S x y g p q h = h ∙ ap (λ (z : ℤ). (z -ℤ to_z w32 (of_z w32 y)
 pub gap-gap-requires : goal.gap-gap-requires
 gap-gap-requires c =
     let near : (a : ℕ) (x : ℤ) → x ≡ by_of c.args.r.now a → mag (to_z w32 (of_z w32 x)) ≤ 257000 = λ a x e. subst (λ (z : ℤ). mag z ≤ 257000) (sym (passed c.args.r.now c.requires.sound a x e)) (far c.args.r.now c.requires.sound a) in
-    record { far = (near c.args.e.now.a c.place-a.result.by c.place-a.ensures.by, near c.args.e.now.b c.place-b.result.by c.place-b.ensures.by) }
+    record { far = (near c.args.e.now.a c.at-a.result.by (bys c.at-a.ensures), near c.args.e.now.b c.at-b.result.by (bys c.at-b.ensures)) }
 
 pub returns-then-gap-eq0 : goal.returns-then-gap-eq0
 returns-then-gap-eq0 c =
-    let a = c.place-a in
-    let b = c.place-b in
+    let a = c.at-a in
+    let b = c.at-b in
     let g = c.gap-gap in
-    held c.args.r.now c.args.e.now c.requires.sound g.result (gap_of c.args.r.now c.args.e.now c.requires.sound a.result.by b.result.by g.result a.ensures.by b.ensures.by g.ensures.gap)
-    (sym a.ensures.root ∙ c.if-a-b.true ∙ b.ensures.root) (zero_code g.result g.ensures.little c.if-gap-eq0.true)
+    held c.args.r.now c.args.e.now c.requires.sound g.result (gap_of c.args.r.now c.args.e.now c.requires.sound a.result.by b.result.by g.result (bys a.ensures) (bys b.ensures) g.ensures.gap)
+    (sym (roots a.ensures) ∙ c.if-a-b.true ∙ (roots b.ensures)) (zero_code g.result g.ensures.little c.if-gap-eq0.true)
 
 pub returns-else-gap-eq0 : goal.returns-else-gap-eq0
 returns-else-gap-eq0 c =
-    let a = c.place-a in
-    let b = c.place-b in
+    let a = c.at-a in
+    let b = c.at-b in
     let g = c.gap-gap in
-    refused c.args.r.now c.args.e.now c.requires.sound g.result (gap_of c.args.r.now c.args.e.now c.requires.sound a.result.by b.result.by g.result a.ensures.by b.ensures.by g.ensures.gap)
-    (sym a.ensures.root ∙ c.if-a-b.true ∙ b.ensures.root) (λ e. c.if-gap-eq0.false (code_zero g.result e))
+    refused c.args.r.now c.args.e.now c.requires.sound g.result (gap_of c.args.r.now c.args.e.now c.requires.sound a.result.by b.result.by g.result (bys a.ensures) (bys b.ensures) g.ensures.gap)
+    (sym (roots a.ensures) ∙ c.if-a-b.true ∙ (roots b.ensures)) (λ e. c.if-gap-eq0.false (code_zero g.result e))
 
 pub shift-requires : goal.shift-requires
 shift-requires c = record {
-  few = c.reach.ensures.same.few;
-  far = far_same c.args.r.now c.reach.new.r c.requires.sound c.reach.ensures.same;
+  few = (same_reached c.args.r.now c.reach.new.self _ c.requires.sound.few (omega arith) c.reach.ensures).few;
+  far = far_same c.args.r.now c.reach.new.self c.requires.sound (same_reached c.args.r.now c.reach.new.self _ c.requires.sound.few (omega arith) c.reach.ensures);
   little = subst (λ (z : ℤ). mag z ≤ 1000000) (sym (plain c.gap-gap.result (omega (arith, c.gap-gap.ensures.little)))) (omega (arith, c.gap-gap.ensures.little));
-  inside = omega (arith, c.place-b.ensures.root, c.requires.sound.low c.args.e.now.b, c.reach.ensures.reached, c.max.ensures);
+  inside = omega (arith, (roots c.at-b.ensures), c.requires.sound.low c.args.e.now.b, c.reach.ensures.used, c.max.ensures);
 }
 
 pub shift-requires-else-a-b-2 : goal.shift-requires-else-a-b-2
 shift-requires-else-a-b-2 c = record {
-  few = c.reach.ensures.same.few;
-  far = far_same c.args.r.now c.reach.new.r c.requires.sound c.reach.ensures.same;
+  few = (same_reached c.args.r.now c.reach.new.self _ c.requires.sound.few (omega arith) c.reach.ensures).few;
+  far = far_same c.args.r.now c.reach.new.self c.requires.sound (same_reached c.args.r.now c.reach.new.self _ c.requires.sound.few (omega arith) c.reach.ensures);
   little = subst (λ (z : ℤ). mag z ≤ 1000000) (sym (plain_back c.gap-gap.result c.gap-gap.ensures.little)) (small_back c.gap-gap.result c.gap-gap.ensures.little);
-  inside = omega (arith, c.place-a.ensures.root, c.requires.sound.low c.args.e.now.a, c.reach.ensures.reached, c.max.ensures);
+  inside = omega (arith, (roots c.at-a.ensures), c.requires.sound.low c.args.e.now.a, c.reach.ensures.used, c.max.ensures);
 }
 
 -- the class is moved in the record as it was passed, too
@@ -71,20 +82,20 @@ moved_since r s t from to x g A e M = moved_after from to g r s t A (moved_as fr
 
 pub returns-then-a-b-2 : goal.returns-then-a-b-2
 returns-then-a-b-2 c =
-    let a = c.place-a in
-    let b = c.place-b in
+    let a = c.at-a in
+    let b = c.at-b in
     let g = c.gap-gap in
-    joined_up c.args.r.now c.args.e.now c.requires.sound g.result (gap_of c.args.r.now c.args.e.now c.requires.sound a.result.by b.result.by g.result a.ensures.by b.ensures.by g.ensures.gap)
-    c.shift.new.r b.result.root a.result.root a.ensures.root b.ensures.root c.if-a-b-2.true
-    (moved_since c.args.r.now c.reach.new.r c.shift.new.r b.result.root a.result.root _ g.result c.reach.ensures.same (plain g.result (omega (arith, g.ensures.little))) c.shift.ensures)
+    joined_up c.args.r.now c.args.e.now c.requires.sound g.result (gap_of c.args.r.now c.args.e.now c.requires.sound a.result.by b.result.by g.result (bys a.ensures) (bys b.ensures) g.ensures.gap)
+    c.shift.new.r b.result.root a.result.root (roots a.ensures) (roots b.ensures) c.if-a-b-2.true
+    (moved_since c.args.r.now c.reach.new.self c.shift.new.r b.result.root a.result.root _ g.result (same_reached c.args.r.now c.reach.new.self _ c.requires.sound.few (omega arith) c.reach.ensures) (plain g.result (omega (arith, g.ensures.little))) c.shift.ensures)
 
 pub returns-else-a-b-2 : goal.returns-else-a-b-2
 returns-else-a-b-2 c =
-    let a = c.place-a in
-    let b = c.place-b in
+    let a = c.at-a in
+    let b = c.at-b in
     let g = c.gap-gap in
     let s = c.shift-else-a-b-2.new.r in
     let ne : a.result.root ≢ b.result.root = c.if-a-b.false in
-    joined_down c.args.r.now c.args.e.now c.requires.sound g.result (gap_of c.args.r.now c.args.e.now c.requires.sound a.result.by b.result.by g.result a.ensures.by b.ensures.by g.ensures.gap)
-    s a.result.root b.result.root a.ensures.root b.ensures.root (omega (arith, c.if-a-b-2.false))
-    (moved_since c.args.r.now c.reach.new.r s a.result.root b.result.root _ (neg_ℤ g.result) c.reach.ensures.same (plain_back g.result g.ensures.little) c.shift-else-a-b-2.ensures)
+    joined_down c.args.r.now c.args.e.now c.requires.sound g.result (gap_of c.args.r.now c.args.e.now c.requires.sound a.result.by b.result.by g.result (bys a.ensures) (bys b.ensures) g.ensures.gap)
+    s a.result.root b.result.root (roots a.ensures) (roots b.ensures) (omega (arith, c.if-a-b-2.false))
+    (moved_since c.args.r.now c.reach.new.self s a.result.root b.result.root _ (neg_ℤ g.result) (same_reached c.args.r.now c.reach.new.self _ c.requires.sound.few (omega arith) c.reach.ensures) (plain_back g.result g.ensures.little) c.shift-else-a-b-2.ensures)

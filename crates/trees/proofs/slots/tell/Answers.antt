@@ -4,7 +4,7 @@ use Rattle.std.specs.Option.{ForSome}
 use Rattle.records.specs.declared.slots.Slot.{Slot}
 use Rattle.records.specs.Slots.{live_at}
 use Rattle.records.proofs.Places.{live_within}
-use Rattle.trees.specs.declared.cells.Store.{Store}
+use Rattle.trees.specs.Stores.{Store}
 use Rattle.trees.specs.Meaning.{SoundAt}
 use Rattle.trees.proofs.Aside.{told_here, undecided, told_since}
 use Rattle.trees.proofs.slots.tell.Goals as goal

@@ -1,5 +1,5 @@
 -- Why `fork` makes a store with the solutions of another.
-use Rattle.std.proofs.Common.{ℕ, false, length, get_or, sym, ap, ◌∙◌}
+use Rattle.std.proofs.Common.{ℕ, false, get_or, sym, ap, ◌∙◌}
 use Rattle.bank.specs.Kinds.{Solutions}
 use Rattle.row.specs.Items.{items}
 use Rattle.row.proofs.Rows.{last_popped}

@@ -1,5 +1,5 @@
 -- Why `open` makes a store with all solutions.
-use Rattle.std.proofs.Common.{length, refl}
+use Rattle.std.proofs.Common.{refl}
 use Rattle.bank.specs.Kinds.{all_admitted}
 use Rattle.row.specs.Items.{items}
 use Rattle.row.proofs.Rows.{last_popped}
