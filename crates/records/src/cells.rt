@@ -11,6 +11,7 @@ pub struct Record<C, const N: usize> {
     ghost full: { length cells ≡ N },
 }
 
+// By hand, since none is derived for a struct with a ghost field.
 impl<C: Copy, const N: usize> Clone for Record<C, N> {
     ghost is_clone = { λ x y. y ≡ x };
 

@@ -43,6 +43,7 @@ impl<C: Node, const N: usize> Record<C, N> {
         requires within { end ≤ N }
         ensures { Reached C.own self.old self.new end }
     {
+        // The node's number is what is written, so it is counted.
         for node in self.used..end {
             self.cells[node as usize] = C::alone(node);
         }
@@ -55,6 +56,7 @@ impl<C: Node, const N: usize> Record<C, N> {
         ensures { Alike C.own other.now self.new }
     {
         let used = other.used as usize;
+        // As slices first: no part of an array of N cells is lent out of a record yet.
         let cells: &mut [C] = &mut self.cells;
         let others: &[C] = &other.cells;
         cells[0..used].copy_from_slice(&others[0..used]);
