@@ -13,7 +13,8 @@
 --   rooted      each rule has its goal, and the rules stand one behind the other in the text, up to its end
 --   Stands      what holds of a node in a well-formed table, for whoever walks it
 --   Rooted      what holds of a rule
-use Rattle.std.specs.Prelude.{◌≡◌, ℕ, ◌+◌, ◌<◌, ◌≤◌, Bool, true, ◌&&◌, List, [], ◌∷◌, ◌++◌, length, get_or, ◌==◌, nat_le, nat_lt, slice_index, slice_index_or}
+use Rattle.std.specs.Prelude.{◌≡◌, ℕ, ◌+◌, ◌<◌, ◌≤◌, Bool, true, ◌&&◌, List, [], ◌∷◌, ◌++◌, length, get_or, pos, refl, ◌==◌, nat_le, nat_lt, slice_index, slice_index_or}
+use Rattle.std.proofs.Common.{lit≤}
 use Rattle.row.specs.declared.Row.{Row}
 use Rattle.row.specs.Items.{items}
 use Rattle.numeral.specs.Reads.{size as magnitude}
@@ -40,7 +41,7 @@ goal_at ns i = slice_index_or (goals_of [] ns) i nothing
 
 -- what an array of nodes gives past its end
 abbrev pub blank : Node
-blank = record { form = New 0; scope = 0; line = 0 }
+blank = record { form = Tell (record { code = 0; k = pos 0; slots = record { places = 0 ∷ 0 ∷ 0 ∷ []; len = 0; short = lit≤ tt; whole = refl; few = lit≤ tt } }); scope = 0; line = 0 }
 
 abbrev pub no_rule : Rule
 no_rule = record { params = 0; goal = 0 }

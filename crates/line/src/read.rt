@@ -1,5 +1,5 @@
 // How a line is read: its word first, then the count of its fields, then its numbers from left to right.
-ghost use Rattle.std.specs.Prelude.{◌≡◌, ◌≤◌, true, [], length, OnOk};
+ghost use Rattle.std.specs.Prelude.{◌≡◌, ◌<◌, ◌≤◌, true, [], length, OnOk};
 ghost use Rattle.fields.specs.Cursor.{here};
 ghost use Rattle.line.specs.Moves.{Next, Stays};
 ghost use Rattle.line.specs.Reading.{answered, slotted, takes, number_of, signed_of, first_word, first_number, first_signed, as_slots, ruled, called, told, numbered, outcome, Exact};
@@ -59,7 +59,8 @@ fn next_signed(fields: &mut Fields, max: u16) -> Result<i16, Fault>
 
 // All that is left of the line, as slots.
 fn next_slots<const N: usize>(fields: &mut Fields) -> Result<Row<u8, N>, Fault>
-    requires { length (here fields.old) ≤ N }
+    requires few { length (here fields.old) ≤ N }
+    requires short { N < 65536 }
     ensures does { slotted result ≡ as_slots fields.old.given [] (here fields.old) }
     ensures rest { Stays fields.old fields.new }
 {

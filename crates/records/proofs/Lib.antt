@@ -5,5 +5,6 @@ pub mod Listings
 pub mod Writes
 pub mod Orders
 pub mod Copies
+pub mod Vacant
 pub mod Shelves
 pub mod Printing

@@ -2,12 +2,14 @@
 use Rattle.std.proofs.Common.{◌≡◌, ℕ, ◌<◌, false, List, [], ◌∷◌, ◌++◌, length, get_or, set, Some, None, Option, sym, refl, ap, ◌∙◌, subst, arith, length-set}
 use Rattle.std.proofs.lemmas.List.{length_push}
 use Rattle.std.specs.Prelude.{MatchOption}
-use Rattle.row.specs.Items.{items, Last}
+use Rattle.row.specs.Items.{Last}
 use Rattle.bank.specs.Kinds.{Assignment, Solutions}
 use Rattle.bank.specs.Calls.{Added}
 use Rattle.records.specs.declared.slots.Slot.{Slot}
-use Rattle.records.specs.declared.shelf.Shelf.{Shelf}
+use Rattle.records.specs.declared.vacancies.Vacancies.{Vacancies}
 use Rattle.records.specs.Slots.{live_at, means, holding, begun, Written, Listing, Listed}
+use Rattle.records.specs.Vacant.{vacant, Fits}
+use Rattle.records.specs.Shelves.{Shelved}
 use Rattle.records.proofs.Listings.{listing_of, last_within, last_free}
 use Rattle.records.proofs.Orders.{Orderly, taken_within, taken_free, orderly_begun}
 use Rattle.records.proofs.Places.{written, written_then}
@@ -17,8 +19,11 @@ use Rattle.records.proofs.Writes.{added}
 abbrev pub Held : {R : Type 0} → (R → Type 0) → R → Type 0
 Held sound r = ∥ sound r ∥₁
 
-pub shelved : {R : Type 0} {S : _} (b : Shelf R S) → Orderly (Held S.sound) b.slots.now (items b.vacancies) (length (items b.vacancies))
-shelved b = record { small = b.small; counted = b.counted; listed = b.listed; kept = b.kept }
+pub orderly : {R : Type 0} (sound : R → Type 0) (slots : List (Slot R)) (v : Vacancies) → Shelved sound slots v → Orderly (Held sound) slots (vacant v) (length (vacant v))
+orderly sound slots v S = record { small = S.small; counted = S.counted; listed = S.listed; kept = S.kept }
+
+pub shelved : {R : Type 0} (sound : R → Type 0) (slots : List (Slot R)) (v : Vacancies) → Fits v → Orderly (Held sound) slots (vacant v) (length (vacant v)) → Shelved sound slots v
+shelved sound slots v f O = record { small = O.small; fits = f; counted = O.counted; listed = O.listed; kept = O.kept }
 
 -- the number that stands last is that of an idle slot, or there is none
 pub vacant_idle :

@@ -1,2 +1,4 @@
 pub mod Cells
 pub mod Slots
+pub mod Vacant
+pub mod Shelves

@@ -1,5 +1,5 @@
 // What stands at the nodes of a record.
-ghost use Rattle.std.specs.Prelude.{◌≡◌, ℕ, ◌<◌, ◌≤◌};
+ghost use Rattle.std.specs.Prelude.{◌≡◌, ℕ, ◌<◌, ◌≤◌, length};
 ghost use Rattle.records.specs.Cells.{cell_at, Alike, Reached};
 
 use crate::cells::Record;
@@ -24,6 +24,13 @@ impl<C: Node, const N: usize> Record<C, N> {
         }
     }
 
+    // Nothing to run: read as a slice, the cells show how many they are.
+    pub fn whole(&self)
+        ensures { length self.now.cells ≡ N }
+    {
+        let _cells: &[C] = &self.cells;
+    }
+
     // What stands at a node.
     pub fn at(&self, node: u16) -> C
         requires { node < N }
@@ -43,6 +50,7 @@ impl<C: Node, const N: usize> Record<C, N> {
         requires within { end ≤ N }
         ensures { Reached C.own self.old self.new end }
     {
+        self.whole();
         // The node's number is what is written, so it is counted.
         for node in self.used..end {
             self.cells[node as usize] = C::alone(node);

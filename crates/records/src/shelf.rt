@@ -1,139 +1,105 @@
-// The slots of a bank's stores, and the numbers of the idle ones.
-ghost use Rattle.std.specs.Prelude.{◌≡◌, ℕ, ◌-◌, ◌<◌, ◌≤◌, min, false, length, count_by, MatchOption, slice_index};
-ghost use Rattle.row.specs.Items.{items, Last};
+// The calls that are the same in every bank over lent slots: what they do to the slots, and to the numbers of the idle ones.
+ghost use Rattle.std.specs.Prelude.{◌≡◌, ℕ, ◌<◌, false, length, MatchOption};
+ghost use Rattle.row.specs.Items.{Last};
 ghost use Rattle.bank.specs.Calls.{Opens, Forks, Releases, Prints};
-ghost use Rattle.records.specs.Slots.{idle, live_at, means, Listed, Keeps, Stands};
+ghost use Rattle.records.specs.Slots.{live_at, means, Keeps, Stands};
+ghost use Rattle.records.specs.Vacant.{vacant};
+ghost use Rattle.records.specs.Shelves.{Shelved};
 
-use crate::slots::{Slot, copy, idle_all, is_live};
+use crate::slots::{Slot, copy, is_live};
 use crate::stored::Stored;
+use crate::vacancies::Vacancies;
 use bank::Refusal;
-use row::Row;
 use texts::Writer;
 
-// The numbers below `count`, the first of them last.
-fn numbers(count: u16) -> Row<u16, 1024>
-    requires { count ≤ 1024 }
-    ensures count { length (items result) ≡ count }
-    ensures numbers { (i : ℕ) → i < count → slice_index (items result) i ≡ count - 1 - i }
+// Where a store stands.
+pub fn place<R: Copy>(slots: &[Slot<R>], store: u16) -> Result<usize, Refusal>
+    ensures { Stands slots.now store result }
 {
-    let mut numbers = Row::new(0);
-    for number in (0..count).rev() {
-        numbers.push(number);
+    if is_live(slots, store) {
+        Ok(store as usize)
+    } else {
+        Err(Refusal::NotLive)
     }
-    numbers
 }
 
-// The stores stand in lent slots, one in each, and the vacancies are the numbers of the idle ones, of which the last is taken next. A bank
-// tells a store in its slot, so the slots are open to it.
-#[derive(Drop)]
-pub struct Shelf<'a, R: Stored> {
-    pub slots: &'a mut [Slot<R>],
-    vacancies: Row<u16, 1024>,
-    ghost small: { length slots.now ≤ 1024 },
-    ghost counted: { length (items vacancies) ≡ count_by idle slots.now },
-    ghost listed: { Listed slots.now (items vacancies) },
-    ghost kept: { Keeps (λ r. ∥ R.sound r ∥₁) slots.now },
+// An idle slot, unless there is none: the one that is taken next.
+#[tactic(auto, using(crate::proofs::Shelves::vacant_idle))]
+pub fn vacancy<R: Stored>(slots: &[Slot<R>], vacancies: &Vacancies) -> Option<u16>
+    requires { Shelved R.sound slots.now vacancies.now }
+    ensures idle { MatchOption result (length (vacant vacancies.now) ≡ 0) (λ i. (i < length slots.now) × (live_at slots.now i ≡ false)) }
+    ensures last { Last (vacant vacancies.now) result }
+{
+    vacancies.last()
 }
 
-impl<'a, R: Stored> Shelf<'a, R> {
-    // A shelf with no store, over the first 1,024 of the slots, whatever they hold. The others are not touched.
-    pub fn new(slots: &'a mut [Slot<R>]) -> Shelf<'a, R>
-        ensures idle { (i : ℕ) → live_at result.slots.now i ≡ false }
-        ensures spare { length (items result.vacancies) ≡ min (length slots.old) 1024 }
-    {
-        let n = slots.len().min(1024);
-        let part = &mut slots[..n];
-        let spare = idle_all(part);
-        Shelf {
-            slots: part,
-            vacancies: numbers(spare),
-        }
-    }
+// A store with all solutions.
+pub fn open<R: Stored>(slots: &mut [Slot<R>], vacancies: &mut Vacancies) -> Result<u16, Refusal>
+    requires { Shelved R.sound slots.old vacancies.old }
+    ensures shelved { Shelved R.sound slots.new vacancies.new }
+    ensures opens { Opens R.kind R.V (means R.solutions R.text slots.old (length (vacant vacancies.old))) (means R.solutions R.text slots.new (length (vacant vacancies.new))) result }
+{
+    let Some(at) = vacancy(slots, vacancies) else {
+        return Err(Refusal::NoSpare);
+    };
+    let slot = &mut slots[at as usize];
+    slot.record.clear();
+    slot.live = true;
+    vacancies.pop();
+    Ok(at)
+}
 
-    // How many more stores can be made.
-    pub fn spare(&self) -> u16
-        ensures { result ≡ length (items self.now.vacancies) }
-    {
-        self.vacancies.len() as u16
-    }
+// A store with the solutions of another.
+pub fn fork<R: Stored>(
+    slots: &mut [Slot<R>],
+    vacancies: &mut Vacancies,
+    store: u16,
+) -> Result<u16, Refusal>
+    requires { Shelved R.sound slots.old vacancies.old }
+    ensures shelved { Shelved R.sound slots.new vacancies.new }
+    ensures forks { Forks (means R.solutions R.text slots.old (length (vacant vacancies.old))) (means R.solutions R.text slots.new (length (vacant vacancies.new))) store result }
+{
+    let from = place(slots, store)?;
+    let Some(at) = vacancy(slots, vacancies) else {
+        return Err(Refusal::NoSpare);
+    };
+    copy(slots, from, at as usize);
+    slots[at as usize].live = true;
+    vacancies.pop();
+    Ok(at)
+}
 
-    // Whether a number is that of a store.
-    pub fn is_live(&self, store: u16) -> bool
-        ensures { result ≡ live_at self.now.slots.now store }
-    {
-        is_live(self.slots, store)
-    }
+// Ends a store.
+pub fn release<R: Stored>(
+    slots: &mut [Slot<R>],
+    vacancies: &mut Vacancies,
+    store: u16,
+) -> Result<(), Refusal>
+    requires { Shelved R.sound slots.old vacancies.old }
+    ensures shelved { Shelved R.sound slots.new vacancies.new }
+    ensures releases { Releases (means R.solutions R.text slots.old (length (vacant vacancies.old))) (means R.solutions R.text slots.new (length (vacant vacancies.new))) store result }
+{
+    let at = place(slots, store)?;
+    slots[at].live = false;
+    vacancies.push(store);
+    Ok(())
+}
 
-    // Where a store stands.
-    pub fn place(&self, store: u16) -> Result<usize, Refusal>
-        ensures { Stands self.now.slots.now store result }
-    {
-        if self.is_live(store) {
-            Ok(store as usize)
-        } else {
-            Err(Refusal::NotLive)
-        }
+// Writes the text of a variable to the front of `part`, and answers its length.
+pub fn print<R: Stored>(
+    slots: &[Slot<R>],
+    store: u16,
+    var: u16,
+    part: &mut [u8],
+) -> Result<usize, Refusal>
+    requires { Keeps (λ r. ∥ R.sound r ∥₁) slots.now }
+    ensures { (spare : ℕ) → Prints R.V (means R.solutions R.text slots.now spare) store var part.old part.new result }
+{
+    let at = place(slots, store)?;
+    if var >= R::V {
+        return Err(Refusal::BadVariable);
     }
-
-    // An idle slot, unless there is none: the one that is taken next.
-    pub fn vacant(&self) -> Option<u16>
-        ensures idle { MatchOption result (length (items self.now.vacancies) ≡ 0) (λ i. (i < length self.now.slots.now) × (live_at self.now.slots.now i ≡ false)) }
-        ensures last { Last (items self.now.vacancies) result }
-    {
-        self.vacancies.last()
-    }
-
-    // A store with all solutions.
-    pub fn open(&mut self) -> Result<u16, Refusal>
-        ensures { Opens R.kind R.V (means R.solutions R.text self.old.slots.now (length (items self.old.vacancies))) (means R.solutions R.text self.new.slots.now (length (items self.new.vacancies))) result }
-    {
-        let Some(at) = self.vacant() else {
-            return Err(Refusal::NoSpare);
-        };
-        let slots = &mut *self.slots;
-        let slot = &mut slots[at as usize];
-        slot.record.clear();
-        slot.live = true;
-        self.vacancies.pop();
-        Ok(at)
-    }
-
-    // A store with the solutions of another.
-    pub fn fork(&mut self, store: u16) -> Result<u16, Refusal>
-        ensures { Forks (means R.solutions R.text self.old.slots.now (length (items self.old.vacancies))) (means R.solutions R.text self.new.slots.now (length (items self.new.vacancies))) store result }
-    {
-        let from = self.place(store)?;
-        let Some(at) = self.vacant() else {
-            return Err(Refusal::NoSpare);
-        };
-        let slots = &mut *self.slots;
-        copy(slots, from, at as usize);
-        slots[at as usize].live = true;
-        self.vacancies.pop();
-        Ok(at)
-    }
-
-    // Ends a store.
-    pub fn release(&mut self, store: u16) -> Result<(), Refusal>
-        ensures { Releases (means R.solutions R.text self.old.slots.now (length (items self.old.vacancies))) (means R.solutions R.text self.new.slots.now (length (items self.new.vacancies))) store result }
-    {
-        let at = self.place(store)?;
-        self.slots[at].live = false;
-        self.vacancies.push(store);
-        Ok(())
-    }
-
-    // Writes the text of a variable to the front of `part`, and answers its length.
-    pub fn print(&self, store: u16, var: u16, part: &mut [u8]) -> Result<usize, Refusal>
-        ensures { Prints R.V (means R.solutions R.text self.now.slots.now (length (items self.now.vacancies))) store var part.old part.new result }
-    {
-        let at = self.place(store)?;
-        if var >= R::V {
-            return Err(Refusal::BadVariable);
-        }
-        let slots = &*self.slots;
-        let mut writer = Writer::new(part);
-        slots[at].record.write(var, &mut writer);
-        writer.finish().ok_or(Refusal::TextTooLong)
-    }
+    let mut writer = Writer::new(part);
+    slots[at].record.write(var, &mut writer);
+    writer.finish().ok_or(Refusal::TextTooLong)
 }

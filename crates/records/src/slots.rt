@@ -1,5 +1,5 @@
 // A place for one store, and what is done to a row of them.
-ghost use Rattle.std.specs.Prelude.{◌≡◌, ℕ, ◌<◌, ◌≤◌, false, length, count_by, ◌≢◌, slice_index_or};
+ghost use Rattle.std.specs.Prelude.{◌≡◌, ℕ, ◌<◌, ◌≤◌, false, length, count_by, MatchOption, ◌≢◌, slice_index_or};
 ghost use Rattle.records.specs.Slots.{idle, live_at, SameRecords, Copied};
 
 use crate::stored::Stored;
@@ -37,6 +37,21 @@ pub fn idle_all<R: Copy>(slots: &mut [Slot<R>]) -> u16
         slot.live = false;
     }
     slots.len() as u16
+}
+
+// The first slot with no store, or none exactly if there is none. It walks over the slots: a bank that keeps the numbers of its idle slots, as a
+// shelf does, takes the last of them.
+#[tactic(auto, using(crate::proofs::Places::live_is))]
+pub fn first_idle<R: Copy>(slots: &[Slot<R>]) -> Option<u16>
+    requires { length slots.now ≤ 1024 }
+    ensures { MatchOption result (count_by idle slots.now ≡ 0) (λ i. (i < length slots.now) × (live_at slots.now i ≡ false)) }
+{
+    for i in 0..slots.len() {
+        if !slots[i].live {
+            return Some(i as u16);
+        }
+    }
+    None
 }
 
 // Whether a number is that of a store.

@@ -7,6 +7,7 @@ use super::Row;
 impl<T: Copy, const N: usize> Row<T, N> {
     // An empty row. What a place holds that is not in use does not matter.
     pub fn new(blank: T) -> Row<T, N>
+        requires { N < 65536 }
         ensures { items result ≡ [] }
     {
         Row {
@@ -26,7 +27,7 @@ impl<T: Copy, const N: usize> Row<T, N> {
     pub fn is_full(&self) -> bool
         ensures { result ≡ (length (items self.now) == N) }
     {
-        self.len == N
+        self.len as usize == N
     }
 
     // One element more, behind the others.
@@ -34,7 +35,7 @@ impl<T: Copy, const N: usize> Row<T, N> {
         requires { length (items self.old) < N }
         ensures { items self.new ≡ items self.old ++ x ∷ [] }
     {
-        self.places[self.len] = x;
+        self.places[self.len as usize] = x;
         self.len += 1;
     }
 
@@ -46,7 +47,7 @@ impl<T: Copy, const N: usize> Row<T, N> {
             return None;
         }
         self.len -= 1;
-        Some(self.places[self.len])
+        Some(self.places[self.len as usize])
     }
 
     // The last element, if there is one.
@@ -56,20 +57,20 @@ impl<T: Copy, const N: usize> Row<T, N> {
         if self.len == 0 {
             return None;
         }
-        Some(self.places[self.len - 1])
+        Some(self.places[self.len as usize - 1])
     }
 
     // The same elements, the last one first.
     pub fn reverse(&mut self)
         ensures { items self.new ≡ reverse (items self.old) }
     {
-        self.places[..self.len].reverse();
+        self.places[..self.len as usize].reverse();
     }
 
     // The elements, in order.
     pub fn as_slice(&self) -> &[T]
         ensures { result.now ≡ items self.now }
     {
-        &self.places[..self.len]
+        &self.places[..self.len as usize]
     }
 }

@@ -2,16 +2,18 @@
 // the kit's ArrayVec is not.
 #![tactic(auto)]
 
-ghost use Rattle.std.specs.Prelude.{◌≡◌, ◌≤◌, ⊤, length};
+ghost use Rattle.std.specs.Prelude.{◌≡◌, ◌<◌, ◌≤◌, ⊤, length};
 
 pub mod calls;
 
 use std::alloc::AllocError;
 
-// The first `len` of the places are in use.
+// The first `len` of the places are in use. The count is as narrow as rows are short, since short rows stand in every goal of a book and in
+// every node of a search.
 pub struct Row<T, const N: usize> {
     places: [T; N],
-    len: usize,
+    len: u16,
+    ghost short: { N < 65536 },
     ghost whole: { length places ≡ N },
     ghost few: { len ≤ N },
 }

@@ -24,7 +24,7 @@ pub record Parts (S : Type 0) : Type 0 where
   pub stock : ℕ
 
 pub blank : Row ℕ 16
-blank = record { places = replicate 16 0; len = 0; whole = refl; few = omega arith }
+blank = record { places = replicate 16 0; len = 0; short = omega arith; whole = refl; few = omega arith }
 
 abbrev pub tree_of : Option Tree → Tree
 tree_of None = Leaf (record { goal = 0; frame = blank; n = 0; store = 0 })

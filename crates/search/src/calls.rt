@@ -5,7 +5,7 @@ ghost use Rattle.book.specs.Meaning.{book_nodes};
 ghost use Rattle.frontier.specs.Books.{known};
 ghost use Rattle.search.specs.Unknowns.{unknown_lines};
 ghost use Rattle.search.specs.Parts.{tree_of};
-ghost use Rattle.search.specs.Calls.{NoneLeft, NewDoes, PoseDoes, WriteDoes, TakeDoes, Waits, Holding, Emptied};
+ghost use Rattle.search.specs.Calls.{Good, NoneLeft, NewDoes, PoseDoes, WriteDoes, TakeDoes, Waits, Holding, Emptied};
 
 use super::refusal::Refusal;
 use super::{NoMemory, Search};
@@ -58,6 +58,7 @@ fn empty<B: Bank>(
 impl<B: Bank> Search<B> {
     // A search over a bank, which only the search changes from then on. It never touches the stores that are live already.
     pub fn new(heap: Global, bank: B) -> Result<Search<B>, NoMemory<B>>
+        ensures good { IfOk result (λ t. Good B.Bank.view t) }
         ensures does { NewDoes B.Bank.view bank result }
         ensures fresh { IfOk result (λ t. t.steps ≡ 0) }
     {
@@ -80,9 +81,11 @@ impl<B: Bank> Search<B> {
 
     // Starts the search for the answers of a rule, in place of what was posed before.
     pub fn pose(&mut self, book: &Book, rule: usize) -> Result<(), Refusal>
+        ensures good { Good B.Bank.view self.new }
         ensures does { PoseDoes B.Bank.view self.old book.now rule result self.new }
         ensures none_left { NoneLeft B.Bank.view self.old self.new }
     {
+        self.holds();
         if rule >= book.rule_count() {
             return Err(Refusal::NoSuchRule);
         }
@@ -134,8 +137,16 @@ impl<B: Bank> Search<B> {
         Ok(write_line(&self.bank, found.store, count, buffer)?)
     }
 
+    // What holds of every search, said where a call changes none of its parts.
+    pub(crate) fn holds(&self)
+        ensures { Good B.Bank.view self.now }
+    {
+        let _ = &self.pool;
+    }
+
     // Releases the answer that waits.
     pub fn take(&mut self) -> Result<(), Refusal>
+        ensures good { Good B.Bank.view self.new }
         ensures does { TakeDoes B.Bank.view self.old result self.new }
         ensures none_left { NoneLeft B.Bank.view self.old self.new }
     {

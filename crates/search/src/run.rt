@@ -1,6 +1,6 @@
 // Running a search.
 ghost use Rattle.std.specs.Prelude.{◌≡◌, ◌+◌, ◌^◌, ◌<◌, true, false, cond, None};
-ghost use Rattle.search.specs.Calls.{NoneLeft, AdvanceDoes, MayRun, StopsBy, RunDoes, halt_at};
+ghost use Rattle.search.specs.Calls.{Good, NoneLeft, AdvanceDoes, MayRun, StopsBy, RunDoes, halt_at};
 
 use super::refusal::{Halt, Refusal};
 use super::{Outcome, Ran, Search};
@@ -94,18 +94,24 @@ impl<B: Bank> Search<B> {
 
     // Up to `budget` steps, until an answer comes or nothing is left.
     pub fn run(&mut self, budget: u32) -> Result<Ran, Refusal>
+        ensures good { Good B.Bank.view self.new }
         ensures does { RunDoes B.Bank.view self.old budget result self.new }
         ensures none_left { NoneLeft B.Bank.view self.old self.new }
     {
+        self.holds();
         self.check_run(budget)?;
         let mut steps = 0;
         loop {
             if let Some(outcome) = self.outcome(steps, budget) {
+                self.holds();
                 return Ok(self.ran(outcome, steps));
             }
             match self.advance() {
                 Ok(()) => steps += 1,
-                Err(stop) => return Err(Refusal::halted(stop, self.halt(steps))),
+                Err(stop) => {
+                    self.holds();
+                    return Err(Refusal::halted(stop, self.halt(steps)));
+                }
             }
         }
     }

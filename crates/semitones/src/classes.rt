@@ -15,6 +15,7 @@ fn shift(r: &mut Record, from: u16, to: u16, gap: i32)
     requires inside { from < r.old.used }
     ensures { Moved from to gap r.old r.new }
 {
+    r.whole();
     let cells = &mut r.cells[0..r.used as usize];
     for cell in cells.iter_mut() {
         if cell.root == from {

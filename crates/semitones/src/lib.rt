@@ -7,9 +7,10 @@ mod edges;
 mod names;
 mod slots;
 
-ghost use Rattle.std.specs.Prelude.{◌≡◌, ℕ, min, false, length};
-ghost use Rattle.row.specs.Items.{items};
-ghost use Rattle.semitones.specs.Cells.{stores};
+ghost use Rattle.std.specs.Prelude.{◌≡◌, ℕ, ◌≤◌, min, false, length, count_by};
+ghost use Rattle.records.specs.Slots.{idle, Listed, Keeps, Stands};
+ghost use Rattle.records.specs.Vacant.{vacant, Fits};
+ghost use Rattle.semitones.specs.Cells.{Sound, stores};
 ghost use Rattle.semitones.specs.Says.{AllSay};
 ghost use Rattle.semitones.specs.View.{viewed};
 
@@ -17,35 +18,53 @@ use bank::{Bank, Constraint, Effect, Refusal};
 pub use cells::{Cell, Record};
 use classes::join;
 use edges::{arity, edge};
-use records::{Shelf, Slot};
+use records::{Slot, Vacancies, fork, idle_all, open, place, print, release};
 
-// The stores stand on a shelf of lent slots.
+// The stores lie in lent slots, one in each. The slots lie here and in no struct of their own, so that a bank can be held, handed on and
+// searched over in its callers' hands: a `&mut` one struct further in is not followed there.
 #[derive(Drop)]
 pub struct Semitones<'a> {
-    shelf: Shelf<'a, Record>,
+    slots: &'a mut [Slot<Record>],
+    vacancies: Vacancies,
+    ghost small: { length slots.now ≤ 1024 },
+    ghost fits: { Fits vacancies },
+    ghost counted: { length (vacant vacancies) ≡ count_by idle slots.now },
+    ghost listed: { Listed slots.now (vacant vacancies) },
+    ghost kept: { Keeps (λ r. ∥ Sound r ∥₁) slots.now },
 }
 
 impl<'a> Semitones<'a> {
     // A bank with no store, over the first 1,024 of the slots, whatever they hold. The others are not touched.
     pub fn new(slots: &'a mut [Slot<Record>]) -> Semitones<'a>
-        ensures none { (s : ℕ) → (stores result.shelf.slots.now (length (items result.shelf.vacancies))).live s ≡ false }
-        ensures spare { (stores result.shelf.slots.now (length (items result.shelf.vacancies))).spare ≡ min (length slots.old) 1024 }
+        ensures none { (s : ℕ) → (stores result.slots.now (length (vacant result.vacancies))).live s ≡ false }
+        ensures spare { (stores result.slots.now (length (vacant result.vacancies))).spare ≡ min (length slots.old) 1024 }
     {
+        let n = slots.len().min(1024);
+        let part = &mut slots[0..n];
+        let spare = idle_all(part);
         Semitones {
-            shelf: Shelf::new(slots),
+            slots: part,
+            vacancies: Vacancies::new(spare),
         }
     }
 
     // Nothing to run: its contract is what the texts of all stores say of the solutions.
     pub fn texts_say(&self)
-        ensures { AllSay 256 (stores self.now.shelf.slots.now (length (items self.now.shelf.vacancies))) }
+        ensures { AllSay 256 (stores self.now.slots.now (length (vacant self.now.vacancies))) }
     {}
+
+    // Where a store stands.
+    fn place(&self, store: u16) -> Result<usize, Refusal>
+        ensures { Stands self.now.slots.now store result }
+    {
+        place(self.slots, store)
+    }
 }
 
 impl<'a> Bank for Semitones<'a> {
     const V: usize = 256;
 
-    ghost view = { viewed (λ s. s.shelf.slots.now) (λ s. length (items s.shelf.vacancies)) (λ s. s.shelf.kept) };
+    ghost view = { viewed (λ s. s.slots.now) (λ s. length (vacant s.vacancies)) (λ s. s.kept) };
 
     fn variables() -> usize
         ensures { result ≡ 256 }
@@ -58,30 +77,32 @@ impl<'a> Bank for Semitones<'a> {
     }
 
     fn spare(&self) -> u16 {
-        self.shelf.spare()
+        self.vacancies.len()
     }
 
     fn open(&mut self) -> Result<u16, Refusal> {
-        self.shelf.open()
+        let slots = &mut *self.slots;
+        open(slots, &mut self.vacancies)
     }
 
     fn fork(&mut self, store: u16) -> Result<u16, Refusal> {
-        self.shelf.fork(store)
+        let slots = &mut *self.slots;
+        fork(slots, &mut self.vacancies, store)
     }
 
     fn tell(&mut self, store: u16, constraint: &Constraint) -> Result<Effect, Refusal> {
-        let at = self.shelf.place(store)?;
+        let at = self.place(store)?;
         let e = edge(constraint)?;
-        let shelf = &mut self.shelf;
-        let slots = &mut *shelf.slots;
+        let slots = &mut *self.slots;
         join(&mut slots[at].record, &e)
     }
 
     fn release(&mut self, store: u16) -> Result<(), Refusal> {
-        self.shelf.release(store)
+        let slots = &mut *self.slots;
+        release(slots, &mut self.vacancies, store)
     }
 
     fn print(&self, store: u16, var: u16, part: &mut [u8]) -> Result<usize, Refusal> {
-        self.shelf.print(store, var, part)
+        print(self.slots, store, var, part)
     }
 }

@@ -2,7 +2,7 @@
 --
 --   Stop    what may stand behind a number
 --   Plain   a byte that is no comma and no newline
-use Rattle.std.proofs.Common.{◌≡◌, ℕ, ◌^◌, ◌<◌, ◌≢◌, List, [], ◌∷◌, ◌++◌, decimal, get_or, sym, refl, ap, ◌∙◌, subst, arith}
+use Rattle.std.proofs.Common.{◌≡◌, ℕ, ◌^◌, ◌<◌, ◌≢◌, List, [], ◌∷◌, ◌++◌, length, decimal, get_or, sym, refl, ap, ◌∙◌, subst, arith}
 use Rattle.std.specs.Int.{IsInRange}
 use Rattle.std.specs.List.{All}
 use Rattle.std.specs.Str.Parse.{AllDigits}
@@ -52,11 +52,21 @@ decimal_split m n s t lm ln h k e =
     let both = digits_split (decimal m) (decimal n) s t (digits m lm) (digits n ln) h k e in
     (decimal_injective m n lm ln both.0, both.1)
 
--- and begins with a digit
+-- there are some, and each is a digit
+pub figures : (n : ℕ) → n < 2 ^ 64 → AllDigits 10 (decimal n) × (0 < length (decimal n))
+figures n h = (digits n h, decimal_nonempty n h)
+
+pub first_of_digits : (ds : List ℕ) → AllDigits 10 ds → 0 < length ds → IsInRange 48 57 (get_or ds 0 0)
+first_of_digits ds f some = digit_at ds 0 f some
+
+-- a number begins with a digit
 pub first_digit : (n : ℕ) (s : List ℕ) → n < 2 ^ 64 → IsInRange 48 57 (get_or (decimal n ++ s) 0 0)
-first_digit n s h = subst (IsInRange 48 57) (sym (get_or_append_left (decimal n) s 0 0 (decimal_nonempty n h))) (digit_at (decimal n) 0 (digits n h) (decimal_nonempty n h))
+first_digit n s h = subst (IsInRange 48 57) (sym (get_or_append_left (decimal n) s 0 0 (decimal_nonempty n h))) (first_of_digits (decimal n) (digits n h) (decimal_nonempty n h))
+
+pub plain_digits : (ds : List ℕ) → AllDigits 10 ds → All Plain ds
+plain_digits ds f k d l =
+    let at = digit_at ds k f l in
+    subst Plain (get_or_default ds k 0 d l) ((λ e. omega (arith, at.0)), (λ e. omega (arith, at.0)))
 
 pub plain_decimal : (n : ℕ) → n < 2 ^ 64 → All Plain (decimal n)
-plain_decimal n h k d l =
-    let at = digit_at (decimal n) k (digits n h) l in
-    subst Plain (get_or_default (decimal n) k 0 d l) ((λ e. omega (arith, at.0)), (λ e. omega (arith, at.0)))
+plain_decimal n h = plain_digits (decimal n) (digits n h)

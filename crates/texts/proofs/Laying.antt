@@ -1,9 +1,21 @@
 -- One piece after another in a part. Assumes nothing.
-use Rattle.std.proofs.Common.{◌≡◌, ℕ, ◌<◌, true, false, List, [], ◌∷◌, ◌++◌, length, take, drop, replicate, is_some, Some, None, Option, sym, refl, ap, ◌∙◌, subst, append_assoc, arith}
-use Rattle.std.proofs.lemmas.List.{length-append, take_at, drop_at}
+use Rattle.std.proofs.Common.{◌≡◌, ℕ, ◌+◌, ◌<◌, true, false, List, [], ◌∷◌, ◌++◌, length, take, drop, set, replicate, is_some, Some, None, Option, sym, refl, ap, ◌∙◌, subst, append_assoc, arith}
+use Rattle.std.proofs.lemmas.List.{length-append, length-drop, length_push, set_at, take_at, drop_at, drop_more}
 use Rattle.std.proofs.lemmas.Bool.{both_ways}
 use Rattle.texts.specs.declared.Writer.{Writer}
 use Rattle.texts.specs.Pieces.{Laid, Wrote, Begun, Adds, Ends}
+
+-- a byte written at the end, and an end one behind it
+pub adds_byte : (p text q s : List ℕ) (n b m : ℕ) → n < length q → s ≡ set q n b → m ≡ n + 1 → Wrote p text q (Some n) → Wrote p (text ++ b ∷ []) s (Some m)
+adds_byte p text q s n b m l wrote behind L =
+    let long : length q ≡ length p = (let e = ap length L.holds ∙ length-append text (drop n p) in omega (arith, L.len, L.room, length-drop n p)) in
+    let lt : n < length p = omega arith in
+    let rest : drop (n + 1) p ≡ drop m p = ap (λ (k : ℕ). drop k p) (sym behind) in
+    record {
+      len = behind ∙ ap (λ (k : ℕ). k + 1) L.len ∙ sym (length_push text b);
+      room = omega arith;
+      holds = wrote ∙ ap (λ (xs : List ℕ). set xs n b) (L.holds ∙ ap (λ (xs : List ℕ). text ++ xs) (drop_more p n 0 lt)) ∙ set_at text _ (drop (n + 1) p) b n (sym L.len) ∙ sym (append_assoc text (b ∷ []) (drop (n + 1) p)) ∙ ap (λ (xs : List ℕ). (text ++ b ∷ []) ++ xs) rest;
+    }
 
 -- a piece after a piece
 pub adds_then : (s t : List ℕ) (u v w : Writer) → Adds s u v → Adds t v w → Adds (s ++ t) u w

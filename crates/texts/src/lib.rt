@@ -1,7 +1,7 @@
 // Writes texts into a lent part, one piece after another.
 #![tactic(auto)]
 
-ghost use Rattle.std.specs.Prelude.{◌≡◌, ◌+◌, ◌%◌, not, [], ◌∷◌, decimal as digits};
+ghost use Rattle.std.specs.Prelude.{◌≡◌, ◌+◌, ◌%◌, not, [], ◌∷◌, length, replicate, decimal as digits};
 ghost use Rattle.std.specs.Option.{is_some};
 ghost use Rattle.std.specs.Fmt.{signed_decimal};
 
@@ -23,6 +23,15 @@ impl<'a> Writer<'a> {
         ensures begun { Begun part.old result }
     {
         Writer { part, end: Some(0) }
+    }
+
+    // Behind what stands before `end` already, or, without an end, behind a piece that found no room.
+    pub fn resume(part: &'a mut [u8], end: Option<usize>) -> Writer<'a>
+        ensures lender { result.part.ghost_name ≡ part.entry.ghost_name }
+        ensures holds { result.part.now ≡ part.old }
+        ensures end { result.end ≡ end }
+    {
+        Writer { part, end }
     }
 
     // Adds a byte, unless there is no room.
@@ -82,7 +91,7 @@ impl<'a> Writer<'a> {
         ensures { Ends self.entry result self.exit.0.now }
     {
         if self.overruns() {
-            self.part.fill(0);
+            clear(self.part);
         }
         self.end
     }
@@ -92,4 +101,11 @@ fn last_digit(n: u32) -> u8
     ensures { result ≡ 48 + n % 10 }
 {
     b'0' + (n % 10) as u8
+}
+
+// Makes the whole part zero.
+pub fn clear(part: &mut [u8])
+    ensures { part.new ≡ replicate (length part.old) 0 }
+{
+    part.fill(0);
 }

@@ -1,5 +1,5 @@
 -- A store told in an idle slot. Assumes nothing.
-use Rattle.std.proofs.Common.{◌≡◌, ℕ, ◌<◌, ◌≤◌, Bool, false, ◌&&◌, List, length, get_or, set, Ok, Err, Result, sym, refl, ap, ◌∙◌, subst, arith, length-set}
+use Rattle.std.proofs.Common.{◌≡◌, ℕ, ◌<◌, ◌≤◌, Bool, false, ◌&&◌, List, [], length, get_or, set, Ok, Err, Result, sym, refl, ap, ◌∙◌, subst, arith, length-set}
 use Rattle.std.proofs.lemmas.List.{get_or_default, set-get_or}
 use Rattle.bank.specs.declared.Effect.{Effect}
 use Rattle.bank.specs.declared.Effect.TheVariants.{Kept as Same, Narrowed as Lost}
@@ -17,6 +17,10 @@ use Rattle.trees.specs.Tasks.{asks, Narrowed, Told}
 use Rattle.trees.specs.Meaning.{SoundAt, ToldAside, none, one, ToldAt}
 use Rattle.trees.specs.laws.All.{no_slot, record_at}
 use Rattle.trees.specs.laws.Shapes.{alike_cells, solves_alike}
+
+-- what code gives for a slot past the last one
+abbrev pub past_slot : Slot Store
+past_slot = record { live = false; «record» = record { used = 0; cells = [] } }
 
 -- a slot that is written as it was
 pub written_same : (slots : List (Slot Store)) (i : ℕ) → i < length slots → Written i (holding (record_at slots i)) slots slots

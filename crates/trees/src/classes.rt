@@ -10,7 +10,11 @@ pub fn root_of(r: &Store, x: u16) -> u16
     requires { x < 256 }
     ensures { result ≡ root_of_lem r.now x }
 {
-    r.at(x).root
+    if x < r.used {
+        r.cells[x as usize].root
+    } else {
+        x
+    }
 }
 
 // The form that stands at a variable, which is that of its class if it is the lowest there.
@@ -19,7 +23,11 @@ pub fn form_at(r: &Store, x: u16) -> Form
     requires { x < 256 }
     ensures { result ≡ form_at_lem r.now x }
 {
-    r.at(x).form
+    if x < r.used {
+        r.cells[x as usize].form
+    } else {
+        Form::Free
+    }
 }
 
 // What is known of a variable's class.

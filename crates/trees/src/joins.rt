@@ -54,6 +54,7 @@ fn link(r: &mut Store, from: u16, to: u16, form: Form)
     requires second { to < r.old.used }
     ensures { Moved from to form r.old r.new }
 {
+    r.whole();
     let cells = &mut r.cells[0..r.used as usize];
     for cell in cells.iter_mut() {
         if cell.root == from {
@@ -134,6 +135,7 @@ fn shape(r: &mut Store, t: Bind, s: &mut Stack<Equation>) -> Result<(), NoSoluti
     let a = root_of(r, t.x);
     let f = form_at(r, a);
     meet(f, t.form, s)?;
+    r.whole();
     r.cells[a as usize].form = choose(f, t.form);
     Ok(())
 }

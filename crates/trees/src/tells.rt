@@ -58,6 +58,7 @@ fn decide_form(r: &mut Store, t: Bind) -> Option<Result<Effect, Refusal>>
     }
     if f == Form::Free && is_shallow(r, a, t.form) {
         r.reach(span(Task::Has(t)));
+        r.whole();
         r.cells[a as usize].form = t.form;
         return Some(Ok(Effect::Narrowed));
     }

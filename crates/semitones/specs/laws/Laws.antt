@@ -1,8 +1,7 @@
 -- The laws of this bank. Assumes nothing.
-use Rattle.std.specs.Prelude.{◌≡◌, ℕ, suc, ◌^◌, ◌<◌, ◌≤◌, true, false, List, length, replicate, ℤ, pos, ◌+ℤ◌, ◌≢◌, slice_index, slice_index_or, refl}
+use Rattle.std.specs.Prelude.{◌≡◌, ℕ, suc, ◌^◌, ◌<◌, ◌≤◌, true, false, List, [], length, ℤ, pos, ◌+ℤ◌, ◌≢◌, slice_index, slice_index_or, refl}
 use Rattle.std.proofs.Math.Path.{sym, ap}
 use Rattle.std.proofs.Common.{subst, ◌∙◌, arith, lit≤}
-use Rattle.std.proofs.lemmas.List.{length-replicate}
 use Rattle.std.proofs.Math.IntN.{+ℤ_idr}
 use Rattle.std.specs.Int.Signed.{mag}
 use Rattle.bank.specs.Kinds.{number, Assignment}
@@ -11,7 +10,7 @@ use Rattle.records.specs.declared.slots.Slot.{Slot}
 use Rattle.records.specs.Slots.{Keeps, live_at}
 use Rattle.records.proofs.Places.{live_within, noted_is}
 use Rattle.semitones.specs.Whole.{whole, number_of}
-use Rattle.semitones.specs.Cells.{Record, node, no_cell, root_of_lem, by_of, solves, named, shown, stores, Sound}
+use Rattle.semitones.specs.Cells.{Record, node, root_of_lem, by_of, solves, named, shown, stores, Sound}
 use Rattle.semitones.specs.laws.Solves.{solves_at, solves_number}
 use Rattle.semitones.specs.laws.Bounds.{far}
 use Rattle.semitones.specs.laws.Canon.{one_root, one_by, same_root, same_by}
@@ -56,7 +55,7 @@ module _ (r : Record) (S : Sound r) where
 
 -- what stands past the last slot does not matter
 abbrev pub no_slot : Slot Record
-no_slot = record { live = false; «record» = record { used = 0; cells = replicate 257 no_cell; full = length-replicate 257 no_cell } }
+no_slot = record { live = false; «record» = record { used = 0; cells = [] } }
 
 abbrev pub record_at : List (Slot Record) → ℕ → Record
 record_at slots s = (slice_index_or slots s no_slot).record

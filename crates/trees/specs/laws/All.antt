@@ -1,7 +1,6 @@
 -- The laws of this bank. Assumes nothing.
 use Rattle.std.specs.Prelude.{◌≡◌, ℕ, ◌<◌, ◌≤◌, true, false, List, [], length, replicate, pos, ◌≢◌, slice_index, slice_index_or, refl}
 use Rattle.std.proofs.Common.{sym, ap, subst, ◌∙◌, lit≤}
-use Rattle.std.proofs.lemmas.List.{length-replicate}
 use Rattle.bank.specs.Kinds.{number}
 use Rattle.bank.specs.Views.{Laws}
 use Rattle.records.specs.declared.slots.Slot.{Slot}
@@ -33,7 +32,7 @@ module _ (slots : List (Slot Store)) (i : ℕ) (l : live_at slots i ≡ true) (p
 abbrev pub no_slot : Slot Store
 no_slot = record {
   live = false;
-  «record» = record { used = 0; cells = replicate 256 no_cell; full = length-replicate 256 no_cell };
+  «record» = record { used = 0; cells = replicate 256 no_cell };
 }
 
 abbrev pub record_at : List (Slot Store) → ℕ → Store

@@ -32,10 +32,10 @@ returns-in_err-store g c =
     let p = err_from_is_err_and c.from_residual.result c.from_residual.ensures.1 in
     let a = asked_of g.B.Bank.view.kind c.args.book.now c.args.rule c.rule-asked.result (omega (arith, c.if-rule-rule_count.false, c.rule_count.ensures.means)) c.rule_count.ensures.well (first_unknown g.B.Bank.view.kind (book_nodes c.args.book.now) None c.in_default.ensures) c.rule-asked.ensures.rooted c.rule-asked.ensures.means in
     let k = not_posing g.B.Bank.view _ c.self.invariant _ _ _ _ c.empty.ensures.does c.empty.ensures.none _ _ _ _ _ c.empty.ensures.idle a c.in_err-store.ensures in
-    rw (p.1, p.2, ← c.self.view_is) record { does = (k.refused, k.same); none_left = same_none_left g.B.Bank.view _ _ k.same }
+    rw (p.1, p.2, ← c.self.view_is) record { good = k.good; does = (k.refused, k.same); none_left = same_none_left g.B.Bank.view _ _ k.same }
 
 pub returns : goal.returns
 returns g c =
     let a = asked_of g.B.Bank.view.kind c.args.book.now c.args.rule c.rule-asked.result (omega (arith, c.if-rule-rule_count.false, c.rule_count.ensures.means)) c.rule_count.ensures.well (first_unknown g.B.Bank.view.kind (book_nodes c.args.book.now) None c.in_default.ensures) c.rule-asked.ensures.rooted c.rule-asked.ensures.means in
     let k = posing g.B.Bank.view _ c.self.invariant _ _ _ _ c.empty.ensures.does c.empty.ensures.none _ _ _ _ _ _ a c.first-frame.ensures c.in_ok-store.ensures in
-    rw (c.from.ensures, ← c.self.view_is) record { does = k.does; none_left = k.none_left }
+    rw (c.from.ensures, ← c.self.view_is) record { good = k.good; does = k.does; none_left = k.none_left }

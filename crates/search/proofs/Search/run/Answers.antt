@@ -29,6 +29,7 @@ returns-in-Err g c =
     let a = c.loop-outcome.invariant in
     let l : c.loop-outcome.steps < c.args.budget = omega (arith, a.few, o.2) in
     record {
+      good = c.holds-in-Err.ensures;
       does = stopped g.B.Bank.view c.args.self.now c.loop-outcome.self c.advance.new.self c.loop-outcome.steps c.args.budget a l o.0 c.in-Err.stop _
           (c.halted.ensures ∙ ap (λ (h : Halt). halted c.in-Err.stop h) c.halt.ensures) h;
       none_left = none_left_on g.B.Bank.view c.args.self.now c.loop-outcome.self c.advance.new.self a.none_left c.in-Err.ensures.none_left;

@@ -15,4 +15,4 @@ returns g c =
     let posed = ap (λ (s : Search _). s.posed) c.self.view_is ∙ c.in_ok-taken.ensures.0 in
     let waits = ap (λ (s : Search _). s.waiting) c.self.view_is ∙ c.in_ok-taken.ensures.1 in
     let t = took g.B.Bank.view _ c.self.invariant _ c.in_ok-taken.taken posed waits c.let_go.ensures in
-    rw (← c.self.view_is) (record { does = t.does; none_left = t.none_left })
+    rw (← c.self.view_is) (record { good = t.good; does = t.does; none_left = t.none_left })

@@ -19,7 +19,7 @@ loop-cell-preserved c =
     let ds = c.loop-cell.cells in
     let i = c.loop-cell.cell-index in
     let M : Moving c.args.from c.args.to gap cs ds i = c.loop-cell.invariant in
-    let l : i < r.used = omega (arith, c.loop-cell-test.true, length-take-le (r.used - 0) r.cells (omega (arith, c.requires.few, r.full))) in
+    let l : i < r.used = omega (arith, c.loop-cell-test.true, length-take-le (r.used - 0) r.cells (omega (arith, c.requires.few, c.whole.ensures))) in
     let old : (get_or ds i no_cell).by ≡ (get_or r.cells i no_cell).by = ap (λ (x : Cell). x.by) (M.left i (omega arith) ∙ get_or-take (r.used - 0) r.cells i no_cell (omega arith)) in
     let small : mag (get_or ds i no_cell).by ≤ 1000000 = subst (λ (z : ℤ). mag z ≤ 1000000) (ap (λ (x : Cell). x.by) (cell_in r i l) ∙ sym old) (c.requires.far i) in
     elim c.if-cell-from.branch [
@@ -36,7 +36,7 @@ returns c =
     let gap = to_z w32 (of_z w32 c.args.gap) in
     let ds = c.loop-cell.cells in
     let rest = drop (r.used - 0) r.cells in
-    let n : length (take (r.used - 0) r.cells) ≡ r.used - 0 = length-take-le (r.used - 0) r.cells (omega (arith, c.requires.few, r.full)) in
+    let n : length (take (r.used - 0) r.cells) ≡ r.used - 0 = length-take-le (r.used - 0) r.cells (omega (arith, c.requires.few, c.whole.ensures)) in
     moved_as c.args.from c.args.to gap c.args.gap r _ (to_z-of_z w32 c.args.gap c.ranges.gap)
     (moving_all c.args.from c.args.to gap r _ refl
     (λ a l. get_or_append_left ds rest no_cell a (omega (arith, c.loop-cell.auto.cells, n)) ∙ c.loop-cell.invariant.done a (omega (arith, c.loop-cell-test.false, n))

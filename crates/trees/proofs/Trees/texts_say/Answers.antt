@@ -1,5 +1,5 @@
 use Rattle.std.proofs.Common.{ℕ, List, length, sym, subst}
-use Rattle.row.specs.Items.{items}
+use Rattle.records.specs.Vacant.{vacant}
 use Rattle.bank.specs.Kinds.{Solutions}
 use Rattle.trees.specs.Stores.{solves}
 use Rattle.trees.specs.Meaning.{means}
@@ -10,9 +10,9 @@ use Rattle.trees.proofs.Trees.texts_say.Goals as goal
 
 pub returns : goal.returns
 returns c s x l h =
-    let slots = c.args.self.now.shelf.slots.now in
-    let p = length (items c.args.self.now.shelf.vacancies) in
-    let kept = c.args.self.now.shelf.kept in
+    let slots = c.args.self.now.slots.now in
+    let p = length (vacant c.args.self.now.vacancies) in
+    let kept = c.args.self.now.kept in
     let r = its_record (λ (u : Unit {0}). slots) (λ u. p) (λ u. kept) tt s l in
     subst (λ (f : Solutions). Says f ((means slots p).text s) x) (sym (its_solutions (λ (u : Unit {0}). slots) (λ u. p) (λ u. kept) tt s l))
     (subst (λ (f : ℕ → List ℕ). Says (solves r) f x) (sym (its_texts (λ (u : Unit {0}). slots) (λ u. p) (λ u. kept) tt s l)) (says r (is_sound (λ (u : Unit {0}). slots) (λ u. p) (λ u. kept) tt s l) x h))

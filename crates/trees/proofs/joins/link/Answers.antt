@@ -8,7 +8,7 @@ pub returns : goal.returns
 returns c =
     let r = c.args.r.now in
     let rest = drop (r.used - 0) r.cells in
-    let n : length c.loop-cell.cells ≡ r.used = omega (arith, c.loop-cell.auto.cells, length-take-le (r.used - 0) r.cells (omega (arith, r.full))) in
+    let n : length c.loop-cell.cells ≡ r.used = omega (arith, c.loop-cell.auto.cells, length-take-le (r.used - 0) r.cells (omega (arith, c.whole.ensures))) in
     moved r _ refl c.args.to c.args.form c.requires.second c.args.from c.requires.first (c.loop-cell.cells ++ rest) (omega (arith, n, length-append c.loop-cell.cells rest))
     (λ a l.
     get_or_append_left c.loop-cell.cells rest no_cell a (omega (arith, n)) ∙ c.loop-cell.invariant.0 a (omega arith)

@@ -18,5 +18,5 @@ returns c =
       room = c.meet.ensures.room;
       started = shaped_start r _ t a f c.choose.result (items c.meet.new.s) c.requires.shaped c.requires.proper.1
           c.root_of-a.ensures c.form_at-f.ensures c.choose.ensures met.0 (met.1 ∙ ap (λ (es : List Equation). sides f t.form ++ es) c.requires.empty)
-          (reformed r _ refl a c.choose.result la (omega (arith, la, c.requires.shaped.used, r.full)) refl);
+          (reformed r _ refl a c.choose.result la (omega (arith, la, c.requires.shaped.used, c.whole.ensures)) refl);
     }

@@ -3,20 +3,20 @@ use Rattle.std.proofs.Common.{ap, sym, ◌∙◌}
 use Rattle.std.proofs.lemmas.Bool.{both_ways}
 use Rattle.records.specs.Slots.{live_at}
 use Rattle.records.proofs.Places.{live_within}
-use Rattle.trees.proofs.Aside.{told_here, told_aside}
+use Rattle.trees.proofs.Aside.{past_slot, told_here, told_aside}
 use Rattle.trees.proofs.slots.tell_apart.Goals as goal
 
 pub bounds-slots-store : goal.bounds-slots-store
 bounds-slots-store c = live_within c.args.slots.now c.args.store c.requires.live
 
 pub tell_copied-requires : goal.tell_copied-requires
-tell_copied-requires c = c.requires.sound c.index-slots-store.result
+tell_copied-requires c = c.requires.sound past_slot
 
 pub returns-in-None : goal.returns-in-None
 returns-in-None c =
     let slots = c.args.slots.now in
     let i = c.args.store in
-    told_here slots i (live_within slots i c.requires.live) c.index-slots-store.result c.tell_copied.new.r c.args.t c.tell_copied.result c.tell_copied.ensures
+    told_here slots i (live_within slots i c.requires.live) past_slot c.tell_copied.new.r c.args.t c.tell_copied.result c.tell_copied.ensures
 
 pub tell_aside-requires : goal.tell_aside-requires
 tell_aside-requires c =

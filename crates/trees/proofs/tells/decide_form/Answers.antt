@@ -15,4 +15,4 @@ returns-then-is_shallow c =
     let la : a < q.used = omega (arith, c.root_of-a.ensures, S.shaped.low t.x t.within, P.0, R.covers) in
     form_placed c.args.r.now q _ c.span.result a t S R (formed_more c.span.result q.used t.form R.covers P.1) c.root_of-a.ensures
     (sym c.form_at-f.ensures ∙ search rules) (sym c.if-is_shallow.ensures)
-    (reformed q _ refl a t.form la (omega (arith, la, R.within, q.full)) refl)
+    (reformed q _ refl a t.form la (omega (arith, la, R.within, c.whole.ensures)) refl)
