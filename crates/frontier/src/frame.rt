@@ -28,11 +28,14 @@ pub(crate) fn select<const N: usize>(frame: &Frame, slots: &Row<u8, N>) -> Row<u
     requires { InScope N (length (items frame.now)) slots.now }
     ensures { items result ≡ vars_of_lem (items frame.now) (items slots.now) }
 {
-    let mut selected = Row::new(0);
-    for slot in slots.as_slice() {
-        selected.push(frame.as_slice()[*slot as usize]);
+    let places = slots.as_slice();
+    let scope = frame.as_slice();
+    // By place, and counted once: a push for each would wait for the one before.
+    let mut variables = [0u16; N];
+    for i in 0..places.len() {
+        variables[i] = scope[places[i] as usize];
     }
-    selected
+    Row::of(variables, places.len())
 }
 
 // The frame with one variable more.

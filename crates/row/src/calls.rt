@@ -1,5 +1,5 @@
 // The calls of a row.
-ghost use Rattle.std.specs.Prelude.{◌≡◌, ◌<◌, ◌≤◌, [], ◌∷◌, ◌++◌, reverse, length, ◌==◌};
+ghost use Rattle.std.specs.Prelude.{◌≡◌, ◌<◌, ◌≤◌, [], ◌∷◌, ◌++◌, reverse, take, length, ◌==◌};
 ghost use Rattle.row.specs.Items.{items, Last, Popped};
 
 use super::Row;
@@ -13,6 +13,18 @@ impl<T: Copy, const N: usize> Row<T, N> {
         Row {
             places: [blank; N],
             len: 0,
+        }
+    }
+
+    // The first `len` of some places.
+    pub fn of(places: [T; N], len: usize) -> Row<T, N>
+        requires short { N < 65536 }
+        requires few { len ≤ N }
+        ensures { items result ≡ take len places }
+    {
+        Row {
+            places,
+            len: len as u16,
         }
     }
 

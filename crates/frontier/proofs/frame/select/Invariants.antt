@@ -1,7 +1,6 @@
-use Rattle.std.proofs.Common.{◌≡◌, take}
-use Rattle.row.specs.Items.{items}
+use Rattle.std.proofs.Common.{◌≡◌, length, take}
 use Rattle.machine.specs.Machine.{vars_of_lem}
 use Rattle.frontier.proofs.frame.select.Given as goal
 
-abbrev pub invariant-loop-slot : goal.invariant-loop-slot
-invariant-loop-slot g l = items l.selected ≡ vars_of_lem (items l.frame) (take l.slot-index (items l.slots))
+abbrev pub invariant-loop-i : goal.invariant-loop-i
+invariant-loop-i g l = (length l.variables ≡ g.row.N) × (take l.i l.variables ≡ vars_of_lem l.scope (take l.i l.places))
