@@ -2,9 +2,9 @@
 use Rattle.std.proofs.Common.{◌≡◌, ℕ, zero, suc, ◌+◌, ◌<◌, ◌≤◌, true, List, [], ◌∷◌, ◌++◌, map, reverse, length, get_or, take, drop, None, sym, refl, ap, ◌∙◌, subst, arith}
 use Rattle.std.proofs.Math.Path.{transport}
 use Rattle.std.proofs.lemmas.List.{length-append, length-map, length-reverse, length-take, length_push, reverse-append, drop_more, drop_all, take_all, take_at, take-take, get_or-map, get_or-take, get_or_push}
-use Rattle.row.specs.declared.Row.{Row}
-use Rattle.row.specs.Items.{items as in_row}
-use Rattle.row.proofs.Rows.{items_few}
+use Rattle.row.specs.declared.ShortRow.{ShortRow}
+use Rattle.row.specs.Shorts.{items as in_row}
+use Rattle.row.proofs.Shorts.{items_few}
 use Rattle.line.specs.declared.Line.{Line}
 use Rattle.line.specs.declared.Line.TheVariants.{Rule as RuleLine, Tell as TellLine, And as AndLine, Or as OrLine, New as NewLine, Call as CallLine}
 use Rattle.line.specs.Says.{says}
@@ -29,7 +29,7 @@ use Rattle.book.proofs.Awaited.{Awaited, awaited_drop, passing}
 use Rattle.book.proofs.Growing.{goals_for, goals_in, Rows, Grown, grown_none, IsGoal, Plants, plants, heads_grown}
 
 -- with these lines left, all others are in the table, and the rules are those among them, the last one first
-pub record Built (d : Draft) (left : List Listed) (table : Table) (rules : Row Rule 64) (roots : Stack ℕ) : Type 0 where
+pub record Built (d : Draft) (left : List Listed) (table : Table) (rules : ShortRow Rule 64) (roots : Stack ℕ) : Type 0 where
   pub front : left ≡ take (length left) (in_row d.listed)
   pub grown : Grown (heads (entries d)) (length (entries d) + 1) (length left + 1) (drop (length left) (entries d)) (nodes table) (reverse (in_row rules)) (items roots)
   pub slots : room roots ≡ 1024
@@ -124,7 +124,7 @@ module _ (d : Draft) where
       drop_more (entries d) k (entry_of x) (omega (arith, entries_long)) ∙ ap (λ e. e ∷ drop (k + 1) (entries d)) (get_or-map entry_of (in_row d.listed) k x (entry_of x) h ∙ ap entry_of (sym is))
 
   -- no line is in a table that is new
-  pub built_start : (left : List Listed) (table : Table) (rs : Row Rule 64) (roots : Stack ℕ) → left ≡ in_row d.listed → nodes table ≡ [] → in_row rs ≡ [] → items roots ≡ [] → room roots ≡ 1024 → Built d left table rs roots
+  pub built_start : (left : List Listed) (table : Table) (rs : ShortRow Rule 64) (roots : Stack ℕ) → left ≡ in_row d.listed → nodes table ≡ [] → in_row rs ≡ [] → items roots ≡ [] → room roots ≡ 1024 → Built d left table rs roots
   built_start left table rs roots all n l i r =
       let hs = heads (entries d) in
       let end = length (entries d) + 1 in
@@ -137,7 +137,7 @@ module _ (d : Draft) where
       }
 
   -- one line more, the last one of those that are left
-  module _ {left less : List Listed} {x : Listed} {n k : ℕ} {table : Table} {rs : Row Rule 64} {roots : Stack ℕ} (met : Met left less x n k) (was : Built d left table rs roots) where
+  module _ {left less : List Listed} {x : Listed} {n k : ℕ} {table : Table} {rs : ShortRow Rule 64} {roots : Stack ℕ} (met : Met left less x n k) (was : Built d left table rs roots) where
     number : k ≡ length less
     number = omega (arith, met.number, met.none)
 
@@ -196,7 +196,7 @@ module _ (d : Draft) where
           let made = ap length grown.headed in
           omega (arith, heads_of_length (reverse (in_row rs)), length-reverse (in_row rs), heads_long, items_few d.params)
 
-      pub rule_built : Passed d → (after : Row Rule 64) (waits : Stack ℕ) → in_row after ≡ in_row rs ++ record { params = p; goal = head (items roots) } ∷ [] → items waits ≡ tail (items roots) → room waits ≡ room roots → Built d less table after waits
+      pub rule_built : Passed d → (after : ShortRow Rule 64) (waits : Stack ℕ) → in_row after ≡ in_row rs ++ record { params = p; goal = head (items roots) } ∷ [] → items waits ≡ tail (items roots) → room waits ≡ room roots → Built d less table after waits
       rule_built ok after waits pushed tails same =
           let r : Rule = record { params = p; goal = head (items roots) } in
           let more = ap reverse pushed ∙ reverse-append (in_row rs) (r ∷ []) in
@@ -208,7 +208,7 @@ module _ (d : Draft) where
           }
 
   -- the rules of a table that has all lines
-  module _ {left : List Listed} {table : Table} {met : Row Rule 64} {roots : Stack ℕ} (was : Built d left table met roots) (none : length left ≡ 0) (rs : Row Rule 64) (turned : in_row rs ≡ reverse (in_row met)) where
+  module _ {left : List Listed} {table : Table} {met : ShortRow Rule 64} {roots : Stack ℕ} (was : Built d left table met roots) (none : length left ≡ 0) (rs : ShortRow Rule 64) (turned : in_row rs ≡ reverse (in_row met)) where
     all : Grown (heads (entries d)) (length (entries d) + 1) 1 (entries d) (nodes table) (in_row rs) (items roots)
     all = transport (λ i. Grown (heads (entries d)) (length (entries d) + 1) (none i + 1) (drop (none i) (entries d)) (nodes table) (sym turned i) (items roots)) was.grown
 

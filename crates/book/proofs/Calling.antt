@@ -1,6 +1,6 @@
 -- One call against the rule that it names, and the calls one after another. Assumes nothing.
 use Rattle.std.proofs.Common.{◌≡◌, ℕ, ◌+◌, ◌<◌, length, get_or, drop, Some, None, sym, ap, ◌∙◌}
-use Rattle.row.specs.Items.{items as in_row}
+use Rattle.row.specs.Shorts.{items as in_row}
 use Rattle.line.specs.Says.{says}
 use Rattle.book.specs.declared.drafts.Draft.{Draft}
 use Rattle.book.specs.declared.drafts.Listed.{Listed}

@@ -1,8 +1,8 @@
 -- Every book that can exist is a book: within the limits, and well formed. Assumes nothing.
 use Rattle.std.proofs.Common.{◌≡◌, ℕ, zero, suc, ◌+◌, ◌<◌, ◌≤◌, true, ◌&&◌, eqb, ltb, leb, List, [], ◌∷◌, length, get_or, sym, refl, ap, ◌∙◌, subst, add-one, arith}
 use Rattle.std.proofs.lemmas.Bool.{and_parts, eqb-true}
-use Rattle.row.specs.Items.{items}
-use Rattle.row.proofs.Rows.{items_few}
+use Rattle.row.specs.Shorts.{items}
+use Rattle.row.proofs.Shorts.{items_few}
 use Rattle.line.specs.Statements.{AllSlots, InRange}
 use Rattle.book.specs.declared.Book.{Book}
 use Rattle.book.specs.declared.Form.{Form}

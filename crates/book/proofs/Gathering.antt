@@ -7,7 +7,7 @@ use Rattle.fields.specs.declared.Fields.{Fields}
 use Rattle.fields.specs.Cursor.{here, later, Lined}
 use Rattle.fields.specs.Cutting.{lines, fields}
 use Rattle.line.specs.Reading.{Outcome, said, wrong, outcome}
-use Rattle.row.specs.Items.{items as in_row}
+use Rattle.row.specs.Shorts.{items as in_row}
 use Rattle.book.specs.declared.place.Gathering.{Gathering}
 use Rattle.book.specs.declared.refusal.Barred.{Barred}
 use Rattle.book.specs.Drafts.{taken, placed_by}

@@ -9,8 +9,8 @@ use Rattle.std.proofs.lemmas.Bool.{and_from, ltb-true, lt-ltb, le-leb, eqb-true,
 use Rattle.line.specs.declared.Line.{Line}
 use Rattle.line.specs.declared.Line.TheVariants.{Rule as RuleLine, Tell as TellLine, And as AndLine, Or as OrLine, New as NewLine, Call as CallLine}
 use Rattle.line.specs.Says.{says}
-use Rattle.row.specs.declared.Row.{Row}
-use Rattle.row.specs.Items.{items}
+use Rattle.row.specs.declared.ShortRow.{ShortRow}
+use Rattle.row.specs.Shorts.{items}
 use Rattle.line.specs.Statements.{Statement, a_rule, a_tell, an_and, an_or, a_new, a_call}
 use Rattle.numeral.specs.Reads.{size as magnitude}
 use Rattle.book.specs.declared.refusal.Cause.TheVariants.{SlotCount, NoSuchRule}
@@ -106,7 +106,7 @@ each_all : (s : ℕ) (xs : List ℕ) → Each (λ x. x < s) xs → all_below s x
 each_all s [] h = refl
 each_all s (x ∷ xs) h = and_from _ _ (lt-ltb x s h.0) (each_all s xs h.1)
 
-slots_are : {N : ℕ} (most scope : ℕ) (s : Row ℕ N) → length (items s) ≤ most → Each (λ x. x < scope) (items s) → slots_fit most scope s ≡ true
+slots_are : {N : ℕ} (most scope : ℕ) (s : ShortRow ℕ N) → length (items s) ≤ most → Each (λ x. x < scope) (items s) → slots_fit most scope s ≡ true
 slots_are most scope s few each = and_from _ _ (le-leb (length (items s)) most few) (each_all scope (items s) each)
 
 is_part : (ns : List Node) (i scope line : ℕ) → i < length ns → scope_at ns i ≡ scope → line_at ns i ≡ line → part ns i scope line ≡ true

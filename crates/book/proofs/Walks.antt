@@ -2,8 +2,8 @@
 use Rattle.std.proofs.Common.{◌≡◌, ℕ, zero, suc, ◌+◌, ◌<◌, true, ◌&&◌, eqb, ltb, leb, List, [], ◌∷◌, ◌++◌, length, get_or, take, sym, refl, ap, ◌∙◌, subst, append_assoc, append-nil, arith}
 use Rattle.std.proofs.lemmas.List.{length_push, length-take, take_all, take-take, take_at, get_or-take, get_or_push}
 use Rattle.std.proofs.lemmas.Bool.{and_parts, ltb-true, leb-true, eqb-true}
-use Rattle.row.specs.declared.Row.{Row}
-use Rattle.row.specs.Items.{items}
+use Rattle.row.specs.declared.ShortRow.{ShortRow}
+use Rattle.row.specs.Shorts.{items}
 use Rattle.numeral.specs.Reads.{size as magnitude}
 use Rattle.book.specs.declared.Form.{Form}
 use Rattle.book.specs.declared.Form.TheVariants.{Tell, And, Or, New, Call}
@@ -20,7 +20,7 @@ each_below s [] j ok h = absurd (omega arith)
 each_below s (x ∷ xs) zero ok h = ltb-true _ _ (and_parts _ _ ok).0
 each_below s (x ∷ xs) (suc j) ok h = each_below s xs j (and_parts _ _ ok).1 (omega arith)
 
-slots_stand : {N : ℕ} (most scope : ℕ) (s : Row ℕ N) → slots_fit most scope s ≡ true → InScope most scope s
+slots_stand : {N : ℕ} (most scope : ℕ) (s : ShortRow ℕ N) → slots_fit most scope s ≡ true → InScope most scope s
 slots_stand most scope s ok =
     let a = and_parts (leb (length (items s)) most) (all_below scope (items s)) ok in
     record { few = leb-true _ _ a.0; below = λ j h. each_below scope (items s) j a.1 h }

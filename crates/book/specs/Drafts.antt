@@ -8,7 +8,7 @@
 --   opened      what is awaited after a goal line, or why it cannot stand
 --   placed_by   the code's answer to a line, as the definitions have it
 use Rattle.std.specs.Prelude.{ℕ, ◌+◌, ◌-◌, cond, List, ◌∷◌, map, length, Some, None, Ok, Err, Option, Result, nat_lt, slice_index}
-use Rattle.row.specs.Items.{items}
+use Rattle.row.specs.Shorts.{items}
 use Rattle.line.specs.declared.Fault.{Fault}
 use Rattle.line.specs.Reading.{Outcome, said, wrong}
 use Rattle.line.specs.Statements.{Statement, a_rule, a_tell, an_and, an_or, a_new, a_call}

@@ -1,6 +1,6 @@
 -- What a table and a book of the code stand for. Assumes nothing.
 use Rattle.std.specs.Prelude.{ℕ, List}
-use Rattle.row.specs.Items.{items}
+use Rattle.row.specs.Shorts.{items}
 use Rattle.book.specs.declared.Book.{Book}
 use Rattle.book.specs.declared.Node.{Node}
 use Rattle.book.specs.declared.Rule.{Rule}

@@ -15,8 +15,8 @@
 --   Rooted      what holds of a rule
 use Rattle.std.specs.Prelude.{◌≡◌, ℕ, ◌+◌, ◌<◌, ◌≤◌, Bool, true, ◌&&◌, List, [], ◌∷◌, ◌++◌, length, get_or, pos, refl, ◌==◌, nat_le, nat_lt, slice_index, slice_index_or}
 use Rattle.std.proofs.Common.{lit≤}
-use Rattle.row.specs.declared.Row.{Row}
-use Rattle.row.specs.Items.{items}
+use Rattle.row.specs.declared.ShortRow.{ShortRow}
+use Rattle.row.specs.Shorts.{items}
 use Rattle.numeral.specs.Reads.{size as magnitude}
 use Rattle.book.specs.declared.Form.{Form}
 use Rattle.book.specs.declared.Form.TheVariants.{Tell, And, Or, New, Call}
@@ -61,7 +61,7 @@ abbrev pub all_below : ℕ → List ℕ → Bool
 all_below scope [] = true
 all_below scope (x ∷ xs) = nat_lt x scope && all_below scope xs
 
-abbrev pub slots_fit : {N : ℕ} → ℕ → ℕ → Row ℕ N → Bool
+abbrev pub slots_fit : {N : ℕ} → ℕ → ℕ → ShortRow ℕ N → Bool
 slots_fit most scope s = nat_le (length (items s)) most && all_below scope (items s)
 
 abbrev pub form_fits : List Node → ℕ → ℕ → Form → Bool
@@ -104,7 +104,7 @@ rules_of ns [] = []
 rules_of ns (r ∷ rs) = rule_of ns r ∷ rules_of ns rs
 
 -- slots that a goal may have, where so many are in scope
-pub record InScope {N : ℕ} (most scope : ℕ) (s : Row ℕ N) : Type 0 where
+pub record InScope {N : ℕ} (most scope : ℕ) (s : ShortRow ℕ N) : Type 0 where
   pub few : length (items s) ≤ most
   pub below : (j : ℕ) → j < length (items s) → slice_index (items s) j < scope
 

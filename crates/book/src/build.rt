@@ -9,7 +9,7 @@ ghost use Rattle.stack.specs.Items.{items, room};
 
 use super::drafts::{Draft, Listed};
 use super::{Book, Form, Node, Rule, Table};
-use line::{Line, Row};
+use line::{Line, ShortRow};
 use stack::Stack;
 
 impl Table {
@@ -87,7 +87,7 @@ pub(crate) fn build(draft: &Draft) -> Book
     let mut table = Table::empty();
     let mut slots = [0u16; 1024];
     let mut roots = Stack::new(&mut slots);
-    let mut rules = Row::new(Rule { params: 0, goal: 0 });
+    let mut rules = ShortRow::new(Rule { params: 0, goal: 0 });
     for (at, listed) in draft.listed.as_slice().iter().enumerate().rev() {
         if let Line::Rule { params } = listed.line {
             let goal = waiting(&mut roots);

@@ -2,9 +2,9 @@
 ghost use Rattle.std.specs.Prelude.{◌≡◌, ◌+◌, ◌≤◌, map, length};
 ghost use Rattle.book.specs.Lists.{entry_of};
 ghost use Rattle.book.specs.Reading.{heads};
-ghost use Rattle.row.specs.Items.{items};
+ghost use Rattle.row.specs.Shorts.{items};
 
-use line::{Line, Row};
+use line::{Line, ShortRow};
 
 // A line with the number of slots in scope where it stands.
 #[derive(Clone, Copy)]
@@ -15,9 +15,9 @@ pub struct Listed {
 
 #[derive(Clone, Copy)]
 pub struct Draft {
-    pub(crate) listed: Row<Listed, 1088>,
+    pub(crate) listed: ShortRow<Listed, 1088>,
     // How many parameters each rule has.
-    pub(crate) params: Row<u8, 64>,
+    pub(crate) params: ShortRow<u8, 64>,
     ghost headed: { items params ≡ heads (map entry_of (items listed)) },
     ghost few_goals: { length (items listed) ≤ length (items params) + 1024 },
 }

@@ -3,9 +3,9 @@
 
 ghost use Rattle.std.specs.Prelude.{◌≡◌, ◌+◌, true, [], length};
 ghost use Rattle.book.specs.Table.{nested, heads_of, calls_fit, rooted};
-ghost use Rattle.row.specs.Items.{items};
+ghost use Rattle.row.specs.Shorts.{items};
 
-pub use line::{Call, Row, Tell};
+pub use line::{Call, Row, ShortRow, Tell};
 
 mod build;
 mod calls;
@@ -46,7 +46,7 @@ pub struct Rule {
 // book lies in fixed memory.
 #[derive(Clone, Copy)]
 pub(crate) struct Table {
-    goals: Row<Node, 1024>,
+    goals: ShortRow<Node, 1024>,
     ghost well: { nested [] (items goals) ≡ true },
 }
 
@@ -54,7 +54,7 @@ pub(crate) struct Table {
 #[derive(Clone, Copy)]
 pub struct Book {
     table: Table,
-    rules: Row<Rule, 64>,
+    rules: ShortRow<Rule, 64>,
     ghost well_rooted: { rooted (items table.goals) (length (items rules) + length (items table.goals) + 1) 1 (items rules) ≡ true },
     ghost well_called: { calls_fit (heads_of (items rules)) (items table.goals) ≡ true },
 }

@@ -8,7 +8,7 @@ ghost use Rattle.stack.specs.Items.{items, room};
 
 use super::drafts::{Draft, Listed};
 use super::refusal::{Barred, Cause};
-use line::{Line, Row};
+use line::{Line, ShortRow};
 use stack::Stack;
 
 // The lines so far, and the goals that are awaited, each by its scope: the newest stands first in the text.
@@ -81,8 +81,8 @@ impl Draft {
             scope: 0,
         };
         Draft {
-            listed: Row::new(none),
-            params: Row::new(0),
+            listed: ShortRow::new(none),
+            params: ShortRow::new(0),
         }
     }
 

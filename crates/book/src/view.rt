@@ -5,7 +5,7 @@ ghost use Rattle.book.specs.Listing.{IsBook};
 ghost use Rattle.book.specs.Meaning.{nodes, book_nodes, book_rules, meaning};
 ghost use Rattle.book.specs.Table.{blank, no_rule, rule_of, scope_at, line_at, Stands, Rooted};
 
-use super::{Book, Form, Node, Row, Rule, Table};
+use super::{Book, Form, Node, Rule, ShortRow, Table};
 
 impl Table {
     // No goal yet.
@@ -18,7 +18,7 @@ impl Table {
             line: 0,
         };
         Table {
-            goals: Row::new(unused),
+            goals: ShortRow::new(unused),
         }
     }
 }
@@ -31,7 +31,7 @@ impl Book {
     {
         Book {
             table: Table::empty(),
-            rules: Row::new(Rule { params: 0, goal: 0 }),
+            rules: ShortRow::new(Rule { params: 0, goal: 0 }),
         }
     }
 

@@ -32,7 +32,7 @@ use Rattle.frontier.specs.declared.tree.Task.{Task}
 use Rattle.frontier.specs.declared.tree.Tree.{Tree, Branch, Chain}
 use Rattle.frontier.specs.declared.tree.Tree.TheVariants.{Leaf}
 use Rattle.frontier.specs.Books.{Reads, known}
-use Rattle.row.specs.Items.{items}
+use Rattle.row.specs.Shorts.{items}
 use Rattle.frontier.specs.declared.tree.Stepped.{Stepped}
 use Rattle.frontier.specs.Steps.{Ready, Went, Next, AtFresh, AtOr, adds, Stops, Boxed, tells, Telling, Told, TellDoes, Seconds}
 use Rattle.frontier.specs.Trees.{boxes, In, Apart, leaves, Kept, Tasked, Stands, Elsewhere}

@@ -4,7 +4,7 @@ use Rattle.std.proofs.lemmas.Bool.{both_ways}
 use Rattle.std.specs.declared.alloc.Global.{Global}
 use Rattle.frontier.specs.declared.tree.Tree.{Tree, Branch, Chain}
 use Rattle.frontier.specs.declared.tree.Tree.TheVariants.{Leaf, Branch', Chain'}
-use Rattle.row.specs.declared.Row.{Row}
+use Rattle.row.specs.declared.ShortRow.{ShortRow}
 use Rattle.frontier.specs.declared.tree.Found.{Found}
 use Rattle.book.specs.declared.Book.{Book}
 use Rattle.frontier.specs.declared.stop.Stop.{Stop}
@@ -14,7 +14,7 @@ use Rattle.book.specs.Language.{Goal, Rules}
 use Rattle.machine.specs.Machine.{Frame, Answer, State, Tree as MachineTree, leaf, branch, chain, Step, step_branch, step_chain, leaf_from}
 use Rattle.bank.specs.Views.{Meaning}
 use Rattle.frontier.specs.Books.{Reads}
-use Rattle.row.specs.Items.{items}
+use Rattle.row.specs.Shorts.{items}
 use Rattle.frontier.specs.Trees.{In, Apart, leaves, Stands, Left, Answers, Given, Elsewhere}
 use Rattle.frontier.specs.Steps.{Ready, Went, Stops, TakesUp}
 
@@ -99,7 +99,7 @@ at_branch a b (branch A B) r = record {
 at_branch a b (chain A g f) r = absurd r.stands
 
 -- A chain's state is a chain.
-pub record AtChain (K : Kind) (V : ℕ) (book : Book) (rules : Rules) (m : Meaning) (a : Tree) (i : ℕ) (e : Row ℕ 16) (T : MachineTree) : Type 0 where
+pub record AtChain (K : Kind) (V : ℕ) (book : Book) (rules : Rules) (m : Meaning) (a : Tree) (i : ℕ) (e : ShortRow ℕ 16) (T : MachineTree) : Type 0 where
   pub A : MachineTree
   pub g : Goal
   pub f : Frame
@@ -108,7 +108,7 @@ pub record AtChain (K : Kind) (V : ℕ) (book : Book) (rules : Rules) (m : Meani
   pub reads : Reads book (length f) i g
   pub frame_is : items e ≡ f
 
-pub at_chain : {K : Kind} {V : ℕ} {book : Book} {rules : Rules} {m : Meaning} (a : Box Tree Global) (i : ℕ) (e : Row ℕ 16) (T : MachineTree) → Ready K V book rules m (Chain a i e) T → AtChain K V book rules m a.value i e T
+pub at_chain : {K : Kind} {V : ℕ} {book : Book} {rules : Rules} {m : Meaning} (a : Box Tree Global) (i : ℕ) (e : ShortRow ℕ 16) (T : MachineTree) → Ready K V book rules m (Chain a i e) T → AtChain K V book rules m a.value i e T
 at_chain a i e (leaf g f n told ch) r = absurd r.stands
 at_chain a i e (branch A B) r = absurd r.stands
 at_chain a i e (chain A g f) r = record {
@@ -122,7 +122,7 @@ at_chain a i e (chain A g f) r = record {
 }
 
 -- the leaf that takes up an answer
-abbrev pub taken : ℕ → Row ℕ 16 → Found → Tree
+abbrev pub taken : ℕ → ShortRow ℕ 16 → Found → Tree
 taken i e y = Leaf (record { goal = i; frame = e; n = y.n; store = y.store })
 
 step_as : {K : Kind} {rules : Rules} {A : MachineTree} {o o' : Option Answer} {S S' : State} → o ≡ o' → S ≡ S' → Step K rules A o S → Step K rules A o' S'
@@ -203,7 +203,7 @@ module _ {K : Kind} {V : ℕ} {book : Book} {rules : Rules} {m n : Meaning} wher
       })
 
   pub chain_ended :
-      (a : Box Tree Global) (i : ℕ) (e : Row ℕ 16) (u w : Tree) (T : MachineTree) → Ready K V book rules m (Chain a i e) T
+      (a : Box Tree Global) (i : ℕ) (e : ShortRow ℕ 16) (u w : Tree) (T : MachineTree) → Ready K V book rules m (Chain a i e) T
       → ((A : MachineTree) → Ready K V book rules m a.value A → Went K V book rules m n a.value u A None true)
       → Went K V book rules m n (Chain a i e) w T None true
   chain_ended a i e u w T r sub =
@@ -225,7 +225,7 @@ module _ {K : Kind} {V : ℕ} {book : Book} {rules : Rules} {m n : Meaning} wher
       })
 
   pub chain_on :
-      (a p : Box Tree Global) (i : ℕ) (e : Row ℕ 16) (u : Tree) (T : MachineTree) → p.value ≡ u → Ready K V book rules m (Chain a i e) T
+      (a p : Box Tree Global) (i : ℕ) (e : ShortRow ℕ 16) (u : Tree) (T : MachineTree) → p.value ≡ u → Ready K V book rules m (Chain a i e) T
       → ((A : MachineTree) → Ready K V book rules m a.value A → Went K V book rules m n a.value u A None false)
       → Went K V book rules m n (Chain a i e) (Chain p i e) T None false
   chain_on a p i e u T h r sub =
@@ -249,7 +249,7 @@ module _ {K : Kind} {V : ℕ} {book : Book} {rules : Rules} {m n : Meaning} wher
       })
 
   chain_last :
-      (a : Box Tree Global) (i : ℕ) (e : Row ℕ 16) (u w : Tree) (T : MachineTree) (y : Found) → w ≡ taken i e y → Ready K V book rules m (Chain a i e) T
+      (a : Box Tree Global) (i : ℕ) (e : ShortRow ℕ 16) (u w : Tree) (T : MachineTree) (y : Found) → w ≡ taken i e y → Ready K V book rules m (Chain a i e) T
       → ((A : MachineTree) → Ready K V book rules m a.value A → Went K V book rules m n a.value u A (Some y) true)
       → Went K V book rules m n (Chain a i e) w T None false
   chain_last a i e u w T y h r sub =
@@ -273,7 +273,7 @@ module _ {K : Kind} {V : ℕ} {book : Book} {rules : Rules} {m n : Meaning} wher
       })
 
   chain_split :
-      (a c p q : Box Tree Global) (i : ℕ) (e : Row ℕ 16) (u : Tree) (T : MachineTree) (y : Found)
+      (a c p q : Box Tree Global) (i : ℕ) (e : ShortRow ℕ 16) (u : Tree) (T : MachineTree) (y : Found)
       → p.value ≡ taken i e y → q.value ≡ Chain c i e → c.value ≡ u → Ready K V book rules m (Chain a i e) T
       → ((A : MachineTree) → Ready K V book rules m a.value A → Went K V book rules m n a.value u A (Some y) false)
       → Went K V book rules m n (Chain a i e) (Branch p q) T None false
@@ -319,7 +319,7 @@ module _ {K : Kind} {V : ℕ} {book : Book} {rules : Rules} {m : Meaning} where
   branch_stops a b T k Variables r sub = let x = at_branch a b T r in subst (λ (S : MachineTree). Stops V m k S Variables) x.is (sub x.A x.first)
   branch_stops a b T k (Stores e) r sub = let x = at_branch a b T r in subst (λ (S : MachineTree). Stops V m k S (Stores e)) x.is (sub x.A x.first)
 
-  pub chain_stops : (a : Box Tree Global) (i : ℕ) (s : Row ℕ 16) (T : MachineTree) (k : ℕ) (e : Stop) → Ready K V book rules m (Chain a i s) T
+  pub chain_stops : (a : Box Tree Global) (i : ℕ) (s : ShortRow ℕ 16) (T : MachineTree) (k : ℕ) (e : Stop) → Ready K V book rules m (Chain a i s) T
       → ((A : MachineTree) → Ready K V book rules m a.value A → Stops V m k A e) → Stops V m k T e
   chain_stops a i s T k Nodes r sub = let x = at_chain a i s T r in subst (λ (S : MachineTree). Stops V m k S Nodes) x.is (sub x.A x.first)
   chain_stops a i s T k Variables r sub = let x = at_chain a i s T r in subst (λ (S : MachineTree). Stops V m k S Variables) x.is (sub x.A x.first)
@@ -327,7 +327,7 @@ module _ {K : Kind} {V : ℕ} {book : Book} {rules : Rules} {m : Meaning} where
 
 -- a chain's answer is taken up, whether or not something is left of its tree
 pub chain_taken :
-    {K : Kind} {V : ℕ} {book : Book} {rules : Rules} {m n : Meaning} (d : Bool) (a c : Box Tree Global) (i : ℕ) (e : Row ℕ 16) (u w l : Tree) (T : MachineTree) (y : Found)
+    {K : Kind} {V : ℕ} {book : Book} {rules : Rules} {m n : Meaning} (d : Bool) (a c : Box Tree Global) (i : ℕ) (e : ShortRow ℕ 16) (u w l : Tree) (T : MachineTree) (y : Found)
     → TakesUp d (Chain c i e) l w → l ≡ taken i e y → c.value ≡ u → Ready K V book rules m (Chain a i e) T
     → ((A : MachineTree) → Ready K V book rules m a.value A → Went K V book rules m n a.value u A (Some y) d)
     → Went K V book rules m n (Chain a i e) w T None false

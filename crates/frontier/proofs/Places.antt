@@ -4,7 +4,7 @@ use Rattle.book.specs.declared.Book.{Book}
 use Rattle.book.specs.declared.Form.TheVariants.{Tell, And, Or, New, Call}
 use Rattle.book.specs.Language.{Goal, tell, conj, disj, fresh, call}
 use Rattle.book.specs.Meaning.{book_nodes, book_rules}
-use Rattle.row.specs.Items.{items}
+use Rattle.row.specs.Shorts.{items}
 use Rattle.book.specs.Table.{goal_at, InScope, Below, Stands}
 use Rattle.line.specs.declared.Call.{Call as CallOf}
 use Rattle.line.specs.declared.Tell.{Tell as TellOf}

@@ -13,7 +13,7 @@ use Rattle.book.specs.declared.Form.TheVariants.{Tell, And, Or, New, Call}
 use Rattle.book.specs.declared.Node.{Node}
 use Rattle.book.specs.Language.{Goal, Rules, WellFormed}
 use Rattle.book.specs.Meaning.{book_nodes, meaning}
-use Rattle.row.specs.Items.{items}
+use Rattle.row.specs.Shorts.{items}
 use Rattle.book.specs.Table.{blank, goal_at, scope_at}
 
 abbrev pub known : Kind → Form → Bool

@@ -38,7 +38,7 @@ use Rattle.frontier.specs.declared.tree.Stepped.{Stepped}
 use Rattle.frontier.specs.declared.stop.Stop.{Stop}
 use Rattle.frontier.specs.declared.stop.Stop.TheVariants.{Nodes, Variables, Stores}
 use Rattle.frontier.specs.Books.{Copies}
-use Rattle.row.specs.Items.{items}
+use Rattle.row.specs.Shorts.{items}
 use Rattle.frontier.specs.Trees.{boxes, In, Apart, leaves, Stands, Left, Given, Holds, held, Among, standing, AllApart, Elsewhere}
 
 abbrev pub Least : MachineTree → Frame → Type 0

@@ -30,7 +30,7 @@ use Rattle.frontier.specs.declared.tree.Tree.TheVariants.{Leaf, Branch', Chain'}
 use Rattle.frontier.specs.declared.tree.Task.{Task}
 use Rattle.frontier.specs.declared.tree.Found.{Found}
 use Rattle.frontier.specs.Books.{Reads}
-use Rattle.row.specs.Items.{items}
+use Rattle.row.specs.Shorts.{items}
 
 abbrev pub In : Tree → ℕ → Type 0
 In (Leaf l) x = l.store ≡ x

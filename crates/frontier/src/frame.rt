@@ -2,21 +2,21 @@
 ghost use Rattle.std.specs.Prelude.{◌≡◌, ◌<◌, ◌≤◌, [], ◌∷◌, ◌++◌, length};
 ghost use Rattle.bank.specs.Conditions.{listed, condition};
 ghost use Rattle.book.specs.Table.{InScope};
-ghost use Rattle.row.specs.Items.{items};
+ghost use Rattle.row.specs.Shorts.{items};
 ghost use Rattle.machine.specs.Machine.{upto, vars_of_lem, told_at};
 
 use bank::{Constraint, Vars};
-use book::{Row, Tell};
+use book::{ShortRow, Tell};
 
 // The variable of each slot in scope.
-pub type Frame = Row<u16, 16>;
+pub type Frame = ShortRow<u16, 16>;
 
 // The variables 0 to p - 1.
 pub fn first(p: u8) -> Frame
     requires { p ≤ 16 }
     ensures { items result ≡ upto p }
 {
-    let mut frame = Row::new(0);
+    let mut frame = ShortRow::new(0);
     for variable in 0..u16::from(p) {
         frame.push(variable);
     }
@@ -24,7 +24,7 @@ pub fn first(p: u8) -> Frame
 }
 
 // The frame's variables at some slots.
-pub(crate) fn select<const N: usize>(frame: &Frame, slots: &Row<u8, N>) -> Row<u16, N>
+pub(crate) fn select<const N: usize>(frame: &Frame, slots: &ShortRow<u8, N>) -> ShortRow<u16, N>
     requires { InScope N (length (items frame.now)) slots.now }
     ensures { items result ≡ vars_of_lem (items frame.now) (items slots.now) }
 {
@@ -35,7 +35,7 @@ pub(crate) fn select<const N: usize>(frame: &Frame, slots: &Row<u8, N>) -> Row<u
     for i in 0..places.len() {
         variables[i] = scope[places[i] as usize];
     }
-    Row::of(variables, places.len())
+    ShortRow::of(variables, places.len())
 }
 
 // The frame with one variable more.

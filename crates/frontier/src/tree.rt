@@ -6,7 +6,7 @@ ghost use Rattle.frontier.specs.Trees.{boxes, Flat, In, Apart, leaves, next_goal
 
 use super::frame::Frame;
 use bank::Bank;
-use book::Row;
+use book::ShortRow;
 use std::alloc::{AllocError, Global};
 use std::mem;
 
@@ -59,7 +59,7 @@ impl Tree {
     pub(crate) fn blank() -> Tree
         ensures { boxes result ≡ 0 }
     {
-        Tree::leaf(0, Row::new(0), 0, 0)
+        Tree::leaf(0, ShortRow::new(0), 0, 0)
     }
 
     // A leaf of these parts.

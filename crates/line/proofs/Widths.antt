@@ -1,10 +1,8 @@
 -- How long the line of a statement is. Assumes nothing.
-use Rattle.std.proofs.Common.{ℕ, ◌+◌, ◌*◌, ◌≤◌, List, [], ◌∷◌, map, length, ℤ, pos, negsuc, decimal, arith}
-use lib.Signed.{mag}
+use Rattle.std.proofs.Common.{ℕ, ◌+◌, ◌*◌, ◌≤◌, List, [], ◌∷◌, map, length, decimal, arith}
 use Rattle.std.specs.Fmt.{signed_decimal}
 use Rattle.std.proofs.lemmas.List.{length-append}
 use Rattle.std.proofs.lemmas.Fmt.{length-decimal-le, length_signed_le}
-use Rattle.numeral.specs.Reads.{size}
 use Rattle.numeral.proofs.Numbers.{mag_le_size}
 use Rattle.fields.specs.Cutting.{comma, joined}
 use Rattle.line.specs.Statements.{Statement, a_rule, a_tell, an_and, an_or, a_new, a_call, words, AllSlots, InRange}

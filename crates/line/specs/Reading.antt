@@ -23,8 +23,8 @@
 use Rattle.std.specs.Prelude.{◌≡◌, ℕ, ◌+◌, Bool, cond, ◌&&◌, List, [], ◌∷◌, ◌++◌, length, drop, ℤ, Some, None, Ok, Err, codes, Option, Result, nat_le}
 use Rattle.std.specs.Str.{bytes_eq}
 use Rattle.numeral.specs.Reads.{as_number, as_signed}
-use Rattle.row.specs.declared.Row.{Row}
-use Rattle.row.specs.Items.{items}
+use Rattle.row.specs.declared.ShortRow.{ShortRow}
+use Rattle.row.specs.Shorts.{items}
 use Rattle.line.specs.declared.Fault.{Fault}
 use Rattle.line.specs.declared.Fault.TheVariants.{UnknownWord, FieldCount, BadNumber}
 use Rattle.line.specs.declared.Line.{Line}
@@ -41,7 +41,7 @@ abbrev pub answered : Result Line Fault → Outcome
 answered (Ok line) = said (says line)
 answered (Err fault) = wrong fault
 
-abbrev pub slotted : {N : ℕ} → Result (Row ℕ N) Fault → Result (List ℕ) Fault
+abbrev pub slotted : {N : ℕ} → Result (ShortRow ℕ N) Fault → Result (List ℕ) Fault
 slotted (Ok s) = Ok (items s)
 slotted (Err fault) = Err fault
 

@@ -3,7 +3,7 @@
 --   says   what a line says
 use Rattle.line.specs.declared.Line.{Line}
 use Rattle.line.specs.declared.Line.TheVariants.{Rule, Tell, And, Or, New, Call}
-use Rattle.row.specs.Items.{items}
+use Rattle.row.specs.Shorts.{items}
 use Rattle.line.specs.Statements.{Statement, a_rule, a_tell, an_and, an_or, a_new, a_call}
 
 abbrev pub says : Line → Statement

@@ -5,21 +5,21 @@ pub mod read;
 pub mod words;
 
 pub use read::read_line;
-pub use row::Row;
+pub use row::{Row, ShortRow};
 
 // A constraint at some slots: at most three.
 #[derive(Clone, Copy)]
 pub struct Tell {
     pub code: u8,
     pub k: i16,
-    pub slots: Row<u8, 3>,
+    pub slots: ShortRow<u8, 3>,
 }
 
 // A rule with the slots for its parameters: at most sixteen.
 #[derive(Clone, Copy)]
 pub struct Call {
     pub rule: u8,
-    pub slots: Row<u8, 16>,
+    pub slots: ShortRow<u8, 16>,
 }
 
 #[derive(Clone, Copy)]

@@ -7,7 +7,7 @@ ghost use Rattle.line.specs.Reading.{answered, slotted, takes, number_of, signed
 use super::{Call, Fault, Line, Tell, Word};
 use fields::{Field, Fields};
 use numeral::{number, signed_number};
-use row::Row;
+use row::ShortRow;
 
 // That `field` writes no number, or none in range.
 fn no_number(field: Field) -> Fault
@@ -58,13 +58,13 @@ fn next_signed(fields: &mut Fields, max: u16) -> Result<i16, Fault>
 }
 
 // All that is left of the line, as slots.
-fn next_slots<const N: usize>(fields: &mut Fields) -> Result<Row<u8, N>, Fault>
+fn next_slots<const N: usize>(fields: &mut Fields) -> Result<ShortRow<u8, N>, Fault>
     requires few { length (here fields.old) ≤ N }
     requires short { N < 65536 }
     ensures does { slotted result ≡ as_slots fields.old.given [] (here fields.old) }
     ensures rest { Stays fields.old fields.new }
 {
-    let mut slots = Row::new(0);
+    let mut slots = ShortRow::new(0);
     while let Some(field) = fields.next() {
         slots.push(number_of(field, 15)?);
     }

@@ -1,5 +1,5 @@
 // What stands at the nodes of a record.
-ghost use Rattle.std.specs.Prelude.{◌≡◌, ℕ, ◌<◌, ◌≤◌, length};
+ghost use Rattle.std.specs.Prelude.{◌≡◌, ℕ, ◌<◌, ◌≤◌};
 ghost use Rattle.records.specs.Cells.{cell_at, Alike, Reached};
 
 use crate::cells::Record;
@@ -22,13 +22,6 @@ impl<C: Node, const N: usize> Record<C, N> {
             used: 0,
             cells: [C::alone(0); N],
         }
-    }
-
-    // Nothing to run: read as a slice, the cells show how many they are.
-    pub fn whole(&self)
-        ensures { length self.now.cells ≡ N }
-    {
-        let _cells: &[C] = &self.cells;
     }
 
     // What stands at a node.

@@ -10,7 +10,7 @@ use crate::nodes::Node;
 use crate::stored::Stored;
 use texts::Writer;
 
-// What a record of N such cells says. A bank gives its cells this, and so has records that a shelf keeps.
+// What a record of N such cells says. A bank gives its cells this, and so has records that lent slots hold.
 pub trait Sense<const N: usize>: Node {
     // How many variables a store has.
     const V: u16;

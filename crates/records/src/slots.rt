@@ -39,8 +39,8 @@ pub fn idle_all<R: Copy>(slots: &mut [Slot<R>]) -> u16
     slots.len() as u16
 }
 
-// The first slot with no store, or none exactly if there is none. It walks over the slots: a bank that keeps the numbers of its idle slots, as a
-// shelf does, takes the last of them.
+// The first slot with no store, or none exactly if there is none. It walks over the slots: a bank that keeps the numbers of its idle slots
+// (`Vacancies`) takes the last of them.
 #[tactic(auto, using(crate::proofs::Places::live_is))]
 pub fn first_idle<R: Copy>(slots: &[Slot<R>]) -> Option<u16>
     requires { length slots.now ≤ 1024 }

@@ -1,4 +1,4 @@
-// What a shelf asks of the records that it keeps.
+// What the calls over lent slots ask of the records there.
 ghost use Rattle.std.specs.Prelude.{◌≡◌, ℕ, ◌<◌, List};
 ghost use Rattle.bank.specs.Kinds.{Kind, Assignment, Solutions, all_admitted};
 ghost use Rattle.texts.specs.Pieces.{Adds};

@@ -1,5 +1,5 @@
 // The calls of a row.
-ghost use Rattle.std.specs.Prelude.{◌≡◌, ◌<◌, ◌≤◌, [], ◌∷◌, ◌++◌, reverse, take, length, ◌==◌};
+ghost use Rattle.std.specs.Prelude.{◌≡◌, ◌<◌, ◌≤◌, [], ◌∷◌, ◌++◌, reverse, length, ◌==◌};
 ghost use Rattle.row.specs.Items.{items, Last, Popped};
 
 use super::Row;
@@ -7,24 +7,11 @@ use super::Row;
 impl<T: Copy, const N: usize> Row<T, N> {
     // An empty row. What a place holds that is not in use does not matter.
     pub fn new(blank: T) -> Row<T, N>
-        requires { N < 65536 }
         ensures { items result ≡ [] }
     {
         Row {
             places: [blank; N],
             len: 0,
-        }
-    }
-
-    // The first `len` of some places.
-    pub fn of(places: [T; N], len: usize) -> Row<T, N>
-        requires short { N < 65536 }
-        requires few { len ≤ N }
-        ensures { items result ≡ take len places }
-    {
-        Row {
-            places,
-            len: len as u16,
         }
     }
 
@@ -39,7 +26,7 @@ impl<T: Copy, const N: usize> Row<T, N> {
     pub fn is_full(&self) -> bool
         ensures { result ≡ (length (items self.now) == N) }
     {
-        self.len as usize == N
+        self.len == N
     }
 
     // One element more, behind the others.
@@ -47,7 +34,7 @@ impl<T: Copy, const N: usize> Row<T, N> {
         requires { length (items self.old) < N }
         ensures { items self.new ≡ items self.old ++ x ∷ [] }
     {
-        self.places[self.len as usize] = x;
+        self.places[self.len] = x;
         self.len += 1;
     }
 
@@ -59,7 +46,7 @@ impl<T: Copy, const N: usize> Row<T, N> {
             return None;
         }
         self.len -= 1;
-        Some(self.places[self.len as usize])
+        Some(self.places[self.len])
     }
 
     // The last element, if there is one.
@@ -69,20 +56,20 @@ impl<T: Copy, const N: usize> Row<T, N> {
         if self.len == 0 {
             return None;
         }
-        Some(self.places[self.len as usize - 1])
+        Some(self.places[self.len - 1])
     }
 
     // The same elements, the last one first.
     pub fn reverse(&mut self)
         ensures { items self.new ≡ reverse (items self.old) }
     {
-        self.places[..self.len as usize].reverse();
+        self.places[..self.len].reverse();
     }
 
     // The elements, in order.
     pub fn as_slice(&self) -> &[T]
         ensures { result.now ≡ items self.now }
     {
-        &self.places[..self.len as usize]
+        &self.places[..self.len]
     }
 }

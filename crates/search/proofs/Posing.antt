@@ -20,13 +20,13 @@ use Rattle.machine.proofs.Rules.{own_rules_fit_lem}
 use Rattle.search.specs.declared.Search.{Search}
 use Rattle.search.specs.declared.refusal.Refusal.TheVariants.{NoStock}
 use Rattle.frontier.specs.declared.tree.Found.{Found}
-use Rattle.row.specs.declared.Row.{Row}
+use Rattle.row.specs.declared.ShortRow.{ShortRow}
 use Rattle.frontier.specs.declared.tree.Tree.{Tree}
 use Rattle.frontier.specs.declared.tree.Tree.TheVariants.{Leaf, Branch', Chain'}
 use Rattle.frontier.specs.Books.{Known}
 use Rattle.search.specs.Parts.{tree_of}
 use Rattle.search.specs.Calls.{Mine, WaitsAs, StandsFor, Good, Same, Takes, Starts, PoseRefused, Holding, Emptied}
-use Rattle.row.specs.Items.{items}
+use Rattle.row.specs.Shorts.{items}
 use Rattle.frontier.specs.Trees.{leaves, Left, Holds, held, Among, standing, Elsewhere}
 use Rattle.frontier.proofs.Moves.{frame, stands_live}
 use Rattle.search.proofs.Along.{Called}
@@ -63,7 +63,7 @@ pub asked_of :
 asked_of K book n q t w k r m = record { there = t; well = w; known = k; rooted = r; means = m }
 
 -- a rule is posed with the boxes q
-abbrev begun : {S : Type 0} → Search S → S → Book → ℕ → ℕ → Row ℕ 16 → ℕ → ℕ → Vec (Box Tree Global) Global → Option Found → Search S
+abbrev begun : {S : Type 0} → Search S → S → Book → ℕ → ℕ → ShortRow ℕ 16 → ℕ → ℕ → Vec (Box Tree Global) Global → Option Found → Search S
 begun s b book p i f n st q x = record {
   bank = b;
   book = book;
@@ -201,7 +201,7 @@ module _ {S : Type 0} (v : View S) (s : Search S) (g : Good v s) where
 module _ {S : Type 0} (v : View S) (s : Search S) (g : Good v s) (k : S) (u : Option Tree) (x : Option Found) (q : Vec (Box Tree Global) Global)
     (c : Emptied (v.meaning s.bank) (v.meaning k) s.over s.tree s.waiting s.pool q) (none : (u ≡ None) × (x ≡ None)) where
   pub posing :
-      (b : S) (book : Book) (r : ℕ) (a : RuleOf) (f : Row ℕ 16) (st : ℕ) → Asked v.kind book r a → items f ≡ upto a.params
+      (b : S) (book : Book) (r : ℕ) (a : RuleOf) (f : ShortRow ℕ 16) (st : ℕ) → Asked v.kind book r a → items f ≡ upto a.params
       → Added (v.meaning k) (v.meaning b) st (all_admitted v.kind v.variables)
       → let t = begun s b book a.params a.goal f a.params st q x in Called v s t (Starts v s book r t)
   posing b book r rule_asked f st a fr add =

@@ -7,7 +7,7 @@ use Rattle.std.proofs.Common.{arith}
 use Rattle.std.specs.declared.alloc.Global.{Global}
 use Rattle.book.specs.declared.Book.{Book}
 use Rattle.frontier.specs.declared.tree.Found.{Found}
-use Rattle.row.specs.declared.Row.{Row}
+use Rattle.row.specs.declared.ShortRow.{ShortRow}
 use Rattle.frontier.specs.declared.tree.Tree.{Tree}
 use Rattle.frontier.specs.declared.tree.Tree.TheVariants.{Leaf}
 
@@ -23,7 +23,7 @@ pub record Parts (S : Type 0) : Type 0 where
   pub steps : ℕ
   pub stock : ℕ
 
-pub blank : Row ℕ 16
+pub blank : ShortRow ℕ 16
 blank = record { places = replicate 16 0; len = 0; short = omega arith; whole = refl; few = omega arith }
 
 abbrev pub tree_of : Option Tree → Tree

@@ -1,4 +1,4 @@
-// What the records of a bank say to a shelf.
+// What the records of the bank say to the calls over lent slots.
 ghost use Rattle.semitones.specs.Whole.{whole};
 ghost use Rattle.semitones.specs.Cells.{solves, shown, Sound};
 ghost use Rattle.semitones.specs.laws.Blanks.{few_used, begun, followed};

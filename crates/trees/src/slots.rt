@@ -1,4 +1,4 @@
-// What the records of a bank say to a shelf, and stores told there. Only the part in use is worked on.
+// What the records of the bank say to the calls over lent slots, and stores told there. Only the part in use is worked on.
 ghost use Rattle.std.specs.Prelude.{◌≡◌, ◌<◌, true, false, length, ◌≢◌};
 ghost use Rattle.std.specs.Option.{ForSome};
 ghost use Rattle.records.specs.Slots.{live_at};

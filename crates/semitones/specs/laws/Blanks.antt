@@ -89,7 +89,7 @@ module _ (r s : Record) (A : Same r s) where
       near_as : (x y x' y' : ℤ) (m n : ℕ) → x' ≡ x → y' ≡ y → n ≡ m → (x +ℤ pos 1000) ≤ℤ (y +ℤ pos (1000 * m)) → (x' +ℤ pos 1000) ≤ℤ (y' +ℤ pos (1000 * n))
       near_as x y x' y' m n e f g h = omega (arith, ints, e, f)
 
--- what a shelf asks of the cells
+-- what `Sense` asks of the cells
 pub few_used : (r : Record) → ∥ Sound r ∥₁ → r.used ≤ 257
 few_used r S = (sound_out r S).few
 

@@ -37,7 +37,7 @@ module _ (r : Store) (none : r.used ≡ 0) where
     form = λ a l. subst (λ (f : Form). Fits σ f (σ a)) (sym (free_past r a (past a))) tt;
   }) ∙ sym (every σ 256)
 
--- what a shelf asks of the cells
+-- what `Sense` asks of the cells
 pub few_used : (r : Store) → ∥ Sound r ∥₁ → r.used ≤ 256
 few_used r S = (sound_out r S).shaped.used
 

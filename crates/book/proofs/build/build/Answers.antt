@@ -1,6 +1,6 @@
 use Rattle.std.proofs.Common.{◌≡◌, [], ◌∷◌, ◌++◌, length, ap, ◌∙◌, arith}
-use Rattle.row.specs.Items.{items}
-use Rattle.row.proofs.Rows.{items_few}
+use Rattle.row.specs.Shorts.{items}
+use Rattle.row.proofs.Shorts.{items_few}
 use Rattle.book.proofs.Built.{built_start, goal_line, line_few, plants_here, room_here, goal_built, rule_fits, rule_built, all_rooted, all_called, all_rules}
 use Rattle.book.proofs.build.build.Goals as goal
 

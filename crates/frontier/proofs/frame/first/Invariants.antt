@@ -1,5 +1,5 @@
 use Rattle.std.proofs.Common.{◌≡◌, length}
-use Rattle.row.specs.Items.{items}
+use Rattle.row.specs.Shorts.{items}
 use Rattle.machine.specs.Machine.{upto}
 use Rattle.frontier.proofs.frame.first.Given as goal
 

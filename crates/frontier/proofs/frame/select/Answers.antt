@@ -1,5 +1,5 @@
 -- Why `select` has the frame's variables, slot after slot.
-use Rattle.std.proofs.Common.{◌≡◌, ℕ, ◌+◌, ◌<◌, ◌≤◌, List, [], ◌∷◌, ◌++◌, length, get_or, take, sym, ap, ◌∙◌, subst, add-one, arith, length-set, take-suc, take-suc-set}
+use Rattle.std.proofs.Common.{ℕ, ◌<◌, ◌≤◌, List, [], ◌∷◌, ◌++◌, length, get_or, take, sym, ap, ◌∙◌, subst, add-one, arith, length-set, take-suc, take-suc-set}
 use mathlib.Core.List.{map-append}
 use Rattle.machine.specs.Machine.{vars_of_lem}
 use Rattle.frontier.proofs.frame.select.Goals as goal

@@ -1,7 +1,7 @@
 -- What is left to read answers, behind the slots so far, what the whole line does.
 use Rattle.std.proofs.Common.{◌≡◌, ◌+◌, ◌≤◌, [], length}
 use Rattle.fields.specs.Cursor.{here}
-use Rattle.row.specs.Items.{items}
+use Rattle.row.specs.Shorts.{items}
 use Rattle.line.specs.Moves.{Stays}
 use Rattle.line.specs.Reading.{as_slots}
 use Rattle.line.proofs.read.next_slots.Given as goal

@@ -1,6 +1,6 @@
 use Rattle.std.proofs.Common.{[], ◌∷◌, ◌++◌, map, length, sym, ap, ◌∙◌, arith}
 use Rattle.std.proofs.lemmas.List.{length_push}
-use Rattle.row.specs.Items.{items}
+use Rattle.row.specs.Shorts.{items}
 use Rattle.line.specs.declared.Line.TheVariants.{Rule}
 use Rattle.book.specs.declared.drafts.Listed.{Listed}
 use Rattle.book.specs.Lists.{entry_of}
