@@ -1,8 +1,9 @@
 use records::Record;
 use row::Row;
+use std::test::Fail;
 
 #[test]
-fn a_long_row_is_filled(rt: HostRuntime) {
+fn a_long_row_is_filled(rt: HostRuntime) -> Result<(), Fail> {
     let mut row = Row::<u32, 65537>::new(7);
     assert_eq!(rt; row.len(), 0);
     assert_eq!(rt; row.last(), None);
@@ -19,6 +20,10 @@ fn a_long_row_is_filled(rt: HostRuntime) {
     row.reverse();
     assert_eq!(rt; row.last(), Some(0));
     assert_eq!(rt; row.as_slice()[0], 65535);
+    let copy = row.clone()?;
+    assert_eq!(rt; copy.len(), 65536);
+    assert_eq!(rt; copy.as_slice()[65535], 0);
+    Ok(())
 }
 
 #[test]
